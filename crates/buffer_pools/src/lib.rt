@@ -7,7 +7,6 @@
 //!
 //! | Call | Condition | Promise |
 //! |---|---|---|
-//! | `pool_id_at` | `below`: the number is below 20 | `pool`: the pool of that number |
 //! | `new` | | `starts`: no pool is made; or `NoMemory`, in this call alone |
 //! | `next_pool` | | `next`: the number of the next pool, `None` if and only if twenty are made |
 //! | `count` | | `count`: how many are made; `few`: at most twenty |
@@ -29,4 +28,4 @@
 mod pool;
 mod pools;
 
-pub use pools::{Pools, pool_id_at};
+pub use pools::Pools;

@@ -99,7 +99,7 @@ impl Pools {
         let pool = &mut self.pools[at];
         pool.make(base, size, number, semaphore);
         self.made = at + 1;
-        pool_id_at(at)
+        PoolId::at(at)
     }
 
     /// The semaphore of pool `i`. `None` if and only if it isn't made.
@@ -185,7 +185,7 @@ impl Pools {
         for k in 0..self.made {
             let pool = &self.pools[k];
             if pool.is_held(a) {
-                return Some(pool_id_at(k));
+                return Some(PoolId::at(k));
             }
         }
         None
@@ -216,12 +216,4 @@ fn places(alloc: Global) -> Result<Vec<Pool>, NoMemory>
         }
     }
     Ok(pools)
-}
-
-/// The pool of a number below 20.
-pub fn pool_id_at(number: usize) -> PoolId
-    requires below { number < 20 }
-    ensures pool { result ≡ number }
-{
-    PoolId::from_word(number as u32).unwrap()
 }

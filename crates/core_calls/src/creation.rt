@@ -9,7 +9,7 @@ ghost use Rattle.xinu_model.specs.Process.Creation as creation;
 
 use kernel_state::{Creation, KernelState, make_on_stack};
 use rv_hart::Ram;
-use xinu_base::{Next, SYSERR};
+use xinu_base::{Next, SYSERR, before_zero};
 
 /// Call 2: a new process, which is suspended, and whose name is at an address; its number. Refused if the priority is below 1, the
 /// name isn't in RAM, no number is free or the heap has no such stack.
@@ -62,18 +62,4 @@ fn name_in(bytes: &[u8]) -> &[u8]
 {
     let name = before_zero(bytes);
     if name.len() > 15 { &name[..15] } else { name }
-}
-
-// The bytes before the first zero.
-fn before_zero(bytes: &[u8]) -> &[u8]
-    ensures front { result.now ≡ creation.before_zero bytes.now }
-{
-    let mut end = 0;
-    for b in bytes {
-        if *b == 0 {
-            break;
-        }
-        end += 1;
-    }
-    &bytes[..end]
 }

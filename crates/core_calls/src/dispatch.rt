@@ -1,10 +1,11 @@
-//! The calls by their numbers, 1 to 35, what is left of those that wait, and a tick of the clock.
+//! The calls on processes and ports by their numbers, what is left of those that wait, and a tick of the clock.
 
-ghost use Rattle.std.specs.Prelude.{ℕ, ◌≡◌, ◌≢◌, ◌<◌, ◌≤◌, true, false};
+ghost use Rattle.std.specs.Prelude.{ℕ, ◌≡◌, ◌≢◌, ◌<◌, ◌||◌, true, false};
 ghost use Rattle.kernel_state.specs.Calling.{IsCalling};
 ghost use Rattle.kernel_state.specs.Results.{came_to, IsStart};
 ghost use Rattle.kernel_state.specs.Families.{is_on_device};
-ghost use Rattle.xinu_base.specs.Syscalls.{is_call};
+ghost use Rattle.xinu_base.specs.Syscalls.{is_of};
+ghost use Rattle.xinu_base.specs.declared.syscalls.Family.TheVariants as family;
 ghost use Rattle.part_laws.specs.Preserve.{ticking};
 ghost use Rattle.xinu_model.specs.Calls.{called, continued};
 ghost use Rattle.xinu_model.specs.Machine.{Silent};
@@ -24,10 +25,9 @@ use crate::semaphore_calls::{semcount, semcreate, semdelete, semreset, signal, s
 use kernel_state::{Creation, KernelState, answer_released, half, signed};
 use xinu_base::{Call, Next, Rest, SYSERR, State, each_call};
 
-/// Begins the call of a number from 1 to 35.
+/// Begins a call on processes or ports.
 pub fn begin(k: &mut KernelState, call: Call) -> Next
-    requires core { call.number ≤ 35 }
-    requires known { is_call call.number ≡ true }
+    requires core { (is_of family.Processes call.number || is_of family.Ports call.number) ≡ true }
     requires calling { IsCalling k.old.call }
     requires numbers { (q : ℕ) → (port_at k.old.call.state.parts.ports q).seq < 4294967295 }
     ensures called { came_to k.new.call result ≡ called call.number call.args k.old.call.state }
@@ -35,9 +35,14 @@ pub fn begin(k: &mut KernelState, call: Call) -> Next
 {
     let args = call.args;
     macro_rules! begins {
-        (core { $($number:literal $name:literal $count:literal $begin:expr;)* } io { $($others:tt)* }) => {
+        (
+            Processes { $($number:literal $name:literal $count:literal $begin:expr;)* }
+            Ports { $($port_number:literal $port_name:literal $port_count:literal $port_begin:expr;)* }
+            Devices { $($others:tt)* }
+        ) => {
             match call.number {
                 $($number => $begin,)*
+                $($port_number => $port_begin,)*
                 _ => Next::Returns(SYSERR),
             }
         };

@@ -1,4 +1,4 @@
-//! Calls 1 to 35, on processes, memory, semaphores, messages, the clock, buffer pools and ports, what is left of them, and a tick (book,
+//! The calls on processes, memory, semaphores, messages, the clock, buffer pools and ports, what is left of them, and a tick (book,
 //! chapters 4 to 13).
 //!
 //! | Calls | File |
@@ -15,7 +15,7 @@
 //!
 //! | Call | Condition | Promise |
 //! |---|---|---|
-//! | [`begin`] | `core`, `known`: a number from 1 to 35; `calling`: what holds when a process calls; `numbers`: the number of each port can rise | `called`: what the row of the number gives |
+//! | [`begin`] | `core`: a call on processes or ports; `calling`: what holds when a process calls; `numbers`: the number of each port can rise | `called`: what the row of the number gives |
 //! | [`go_on`] | `calling`; `waits`, `core`: something is left of a call, and not of one on a device | `continued`: what the abstract machine's continuation gives |
 //! | [`tick`] | `start`, `runs`; `few`: the ticks don't wrap | `ticks`: the tick with its own reschedules |
 //! | [`exit`] | `start`, `not_null` | the caller's death |

@@ -9,10 +9,7 @@ ghost use Rattle.xinu_model.specs.Sound.Tables.{IsSoundTables};
 ghost use Rattle.xinu_model.specs.Tables.{state_at};
 
 use kernel_state::KernelState;
-use xinu_base::{Next, SYSERR, State};
-
-// The answer of a call whose time ran out.
-const TIMEOUT: i32 = -3;
+use xinu_base::{Next, SYSERR, State, TIMEOUT};
 
 /// Call 21: the process of this number is sent a word. Refused if there is none, or it holds a word.
 pub(crate) fn send(k: &mut KernelState, word: u32, message: u32) -> Next

@@ -14,7 +14,7 @@ ghost use Rattle.xinu_model.specs.Clock.{due};
 ghost use Rattle.xinu_model.specs.Tables.{InSleepers, Nowhere, message_at, move_to, process_at};
 
 use arrayvec::ArrayVec;
-use process_core::{SLEEPERS, pid_at};
+use process_core::SLEEPERS;
 use queue_table::Lists;
 use std::marker::Model;
 use xinu_base::Pid;
@@ -186,7 +186,7 @@ fn next_due(lists: &mut Lists) -> Option<Pid>
         return None;
     }
     match lists.dequeue(SLEEPERS) {
-        Some(first) => Some(pid_at(first)),
+        Some(first) => Some(Pid::at(first)),
         None => None,
     }
 }

@@ -9,7 +9,6 @@ use crate::waiting::{awaited, wake_of};
 use gdb_packets::push_hex;
 use itoa::Buffer;
 use kernel_tables::KernelTables;
-use process_core::pid_at;
 use std::alloc::{AllocError, Global};
 use xinu_base::{Pid, State};
 
@@ -20,7 +19,7 @@ pub fn process_of(tables: &KernelTables, thread: u32) -> Option<Pid>
     if thread == 0 || thread > 64 {
         return None;
     }
-    let p = pid_at(thread as usize - 1);
+    let p = Pid::at(thread as usize - 1);
     if is_thread(tables, p) { Some(p) } else { None }
 }
 
@@ -59,12 +58,12 @@ fn first_left(tables: &KernelTables) -> Pid
     ensures first { result ≡ spec.first_left tables.now 1 63 }
 {
     for number in 1..64 {
-        let p = pid_at(number);
+        let p = Pid::at(number);
         if is_left(tables, p) {
             return p;
         }
     }
-    pid_at(0)
+    Pid::at(0)
 }
 
 /// The list of the threads.
@@ -88,7 +87,7 @@ fn push_threads(text: &mut Vec<u8>, tables: &KernelTables) -> Result<(), AllocEr
     ensures appended { OnOk result (text.new.items ≡ text.old.items ++ spec.threads_below tables.now 64) }
 {
     for number in 0..64 {
-        push_if_thread(text, tables, pid_at(number))?;
+        push_if_thread(text, tables, Pid::at(number))?;
     }
     Ok(())
 }

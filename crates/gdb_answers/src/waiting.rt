@@ -4,7 +4,6 @@ ghost use Rattle.std.specs.Prelude.{◌≡◌, ◌≤◌};
 ghost use Rattle.gdb_answers.specs.Waiting as spec;
 
 use kernel_tables::KernelTables;
-use semaphores::sem_at;
 use xinu_base::{Pid, Sem};
 
 /// The semaphore on which a process waits.
@@ -12,7 +11,7 @@ pub(crate) fn awaited(tables: &KernelTables, p: Pid) -> Option<Sem>
     ensures semaphore { result ≡ spec.awaited tables.now p }
 {
     for number in 0..128 {
-        let sem = sem_at(number);
+        let sem = Sem::at(number);
         if waits_on(tables, sem, p) {
             return Some(sem);
         }

@@ -14,10 +14,7 @@ ghost use Rattle.xinu_model.specs.Tables.{process_at};
 use crate::console_tokens::{await_item, input_tokens, resume_item, store};
 use kernel_state::KernelState;
 use tty_driver::{Item, TtyMode};
-use xinu_base::{Next, RAM_SIZE, Rest, SYSERR, Span};
-
-// The answer at the end of the input.
-const EOF: i32 = -2;
+use xinu_base::{EOF, Next, RAM_SIZE, Rest, SYSERR, Span};
 
 /// `getc`: the next item, for which the caller waits.
 pub(crate) fn console_getc(k: &mut KernelState) -> Next

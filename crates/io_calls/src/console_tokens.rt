@@ -17,7 +17,6 @@ ghost use Rattle.xinu_model.specs.Sound.Tables.{asks_input, asks_output, IsSound
 ghost use Rattle.xinu_model.specs.Tables.{semaphore_at};
 
 use kernel_state::KernelState;
-use semaphores::sem_at;
 use tty_driver::TtyMode;
 use xinu_base::{Rest, Sem};
 
@@ -127,12 +126,12 @@ pub(crate) fn store(k: &mut KernelState, a: u32, b: u8)
 pub(crate) fn input_sem() -> Sem
     ensures input { result ≡ taking.TY_ISEM }
 {
-    sem_at(0)
+    Sem::at(0)
 }
 
 /// The semaphore of the console's output.
 pub(crate) fn output_sem() -> Sem
     ensures output { result ≡ model.TY_OSEM }
 {
-    sem_at(1)
+    Sem::at(1)
 }

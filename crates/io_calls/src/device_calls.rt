@@ -23,10 +23,7 @@ use crate::open_calls::{Opening, what_opens};
 use device_switch::{Kind, Op, device, kind_of, offers};
 use kernel_state::{Begun, KernelState, signed};
 use local_files::{FileCall, FileDev};
-use xinu_base::{Next, SYSERR};
-
-// The number of the first file device.
-const LFILE0: u32 = 4;
+use xinu_base::{LFILE0, Next, SYSERR};
 
 // A call that is refused as it is made.
 const REFUSED: Begun = Begun::ByRow(Next::Returns(SYSERR));
@@ -177,5 +174,5 @@ fn file_device(word: u32) -> FileDev
     requires file { table.kind_of word ≡ Some Kind.File }
     ensures number { result ≡ model.file_number word }
 {
-    FileDev::from_word(word - LFILE0).unwrap()
+    FileDev::at((word - LFILE0) as usize)
 }

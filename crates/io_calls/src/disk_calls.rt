@@ -17,7 +17,6 @@ ghost use Rattle.xinu_model.specs.Tables.{process_at, state_at};
 use crate::console_tokens::byte_at;
 use disk_driver::{Done, Request};
 use kernel_state::KernelState;
-use semaphores::sem_at;
 use xinu_base::{Next, Pid, RAM_SIZE, Rest, SYSERR, Sem, State};
 
 // The bytes of a block.
@@ -150,5 +149,5 @@ fn bytes_at(k: &KernelState, at: u32) -> [u8; 512]
 fn disk_sem() -> Sem
     ensures disk { result ≡ model.RD_SEM }
 {
-    sem_at(2)
+    Sem::at(2)
 }

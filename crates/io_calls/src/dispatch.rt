@@ -1,11 +1,12 @@
 //! The calls on devices and names by their numbers, and what is left of those that wait.
 
-ghost use Rattle.std.specs.Prelude.{◌≡◌, ◌≤◌, true};
+ghost use Rattle.std.specs.Prelude.{◌≡◌, true};
 ghost use Rattle.kernel_state.specs.Beginnings.{BeginsAs, next_of};
 ghost use Rattle.kernel_state.specs.Families.{is_on_device};
 ghost use Rattle.kernel_state.specs.Calling.{IsCalling};
 ghost use Rattle.kernel_state.specs.Results.{came_to};
-ghost use Rattle.xinu_base.specs.Syscalls.{is_call};
+ghost use Rattle.xinu_base.specs.Syscalls.{is_of};
+ghost use Rattle.xinu_base.specs.declared.syscalls.Family.TheVariants.{Devices};
 ghost use Rattle.xinu_model.specs.Calls.{called, continued};
 ghost use Rattle.xinu_model.specs.Tables.{process_at};
 
@@ -20,17 +21,20 @@ use crate::name_calls::mount;
 use kernel_state::{Begun, KernelState};
 use xinu_base::{Call, Next, Rest, SYSERR, each_call};
 
-/// Begins the call of a number from 36 to 44.
+/// Begins a call on devices or names.
 pub fn begin(k: &mut KernelState, call: Call) -> Begun
-    requires io { 36 ≤ call.number }
-    requires known { is_call call.number ≡ true }
+    requires io { is_of Devices call.number ≡ true }
     requires calling { IsCalling k.old.call }
     ensures called { BeginsAs result (called call.number call.args k.old.call.state) k.old.call.state (came_to k.new.call (next_of result)) }
     ensures image { k.new.image ≡ k.old.image }
 {
     let args = call.args;
     macro_rules! begins {
-        (core { $($others:tt)* } io { $($number:literal $name:literal $count:literal $begin:expr;)* }) => {
+        (
+            Processes { $($process_calls:tt)* }
+            Ports { $($port_calls:tt)* }
+            Devices { $($number:literal $name:literal $count:literal $begin:expr;)* }
+        ) => {
             match call.number {
                 $($number => $begin,)*
                 _ => Begun::ByRow(Next::Returns(SYSERR)),

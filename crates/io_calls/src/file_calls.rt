@@ -27,7 +27,6 @@ use file_server::{FileNote, FileNotes, FileRequest};
 use kernel_state::{Begun, KernelState};
 use local_files::{FileCall, FileDev};
 use rv_hart::Ram;
-use semaphores::sem_at;
 use xinu_base::{Next, RAM_SIZE, Rest, SYSERR, Sem};
 
 // The control function of a file device that empties its file.
@@ -187,5 +186,5 @@ fn tell(k: &mut KernelState, note: FileNote)
 fn files_sem() -> Sem
     ensures files { result ≡ model.LF_SEM }
 {
-    sem_at(3)
+    Sem::at(3)
 }

@@ -1,4 +1,4 @@
-//! The calls on devices, 36 to 44, what is left of them, and the interrupts of devices (book, chapters 14, 15, 18 and 21).
+//! The calls on devices and names, what is left of them, and the interrupts of devices (book, chapters 14, 15, 18 and 21).
 //!
 //! | Calls | File |
 //! |---|---|
@@ -17,7 +17,7 @@
 //!
 //! | Call | Condition | Promise |
 //! |---|---|---|
-//! | [`begin`] | `io`, `known`: a number from 36 to 44; `calling`: what holds when a process calls | `called`: what the row of the number gives; or it is a call on files that takes effect as it is made, which the abstract machine allows if none is before it |
+//! | [`begin`] | `io`: a call on devices or names; `calling`: what holds when a process calls | `called`: what the row of the number gives; or it is a call on files that takes effect as it is made, which the abstract machine allows if none is before it |
 //! | [`go_on`] | `calling`; `io`: something is left of a call on a device | `continued`: what the abstract machine's continuation gives |
 //! | [`on_type`], [`on_tx`] | `start` and what holds of the console | a character is received; a byte is sent, if there is one |
 //! | [`on_disk`] | `start` and what holds of the raw disk | `completes`: its first request is served, well or badly, if there is one |

@@ -12,10 +12,7 @@ use device_switch::{Kind, Op, kind_of, offers};
 use kernel_state::KernelState;
 use local_files::FileCall;
 use name_space::Names;
-use xinu_base::SYSERR;
-
-// The number of the raw disk.
-const DISK0: i32 = 2;
+use xinu_base::{DISK0, SYSERR};
 
 /// What `open` comes to.
 pub(crate) enum Opening {

@@ -40,7 +40,7 @@ use lfs_layout::{CleanImage, RawImage};
 use rv_hart::Outcome;
 use std::alloc::Global;
 use std::marker::Model;
-use xinu_base::{Call, Next, Pid, Rest, SYSERR, is_call};
+use xinu_base::{Call, Family, Next, Pid, Rest, SYSERR, family_of};
 
 /// The kernel. A clause sees the state of the abstract machine inside an event and how the event's call goes, `came`, and the bytes of the
 /// disk with files, `image`.
@@ -273,13 +273,10 @@ fn begin(k: &mut KernelState, call: Call) -> Begun
     ensures called { BeginsAs result (called call.number call.args k.old.call.state) k.old.call.state (came_to k.new.call (next_of result)) }
     ensures image { k.new.image ≡ k.old.image }
 {
-    if !is_call(call.number) {
-        return Begun::ByRow(Next::Returns(SYSERR));
-    }
-    if call.number < 36 {
-        Begun::ByRow(core_calls::begin(k, call))
-    } else {
-        io_calls::begin(k, call)
+    match family_of(call.number) {
+        Some(Family::Processes) | Some(Family::Ports) => Begun::ByRow(core_calls::begin(k, call)),
+        Some(Family::Devices) => io_calls::begin(k, call),
+        None => Begun::ByRow(Next::Returns(SYSERR)),
     }
 }
 

@@ -27,7 +27,6 @@ use kernel_tables::KernelTables;
 use lfs_layout::{CleanImage, RawImage};
 use name_space::Names;
 use ports::Ports;
-use process_core::pid_at;
 use rv_hart::{Hart, RAM_SIZE, Ram};
 use std::alloc::Global;
 use tty_driver::Tty;
@@ -177,7 +176,7 @@ fn make_image(k: &mut KernelState, number: u8, image: &Image<'_>) -> bool
 {
     let mut name = *b"image0\0\0\0\0\0\0\0\0\0";
     name[5] += number;
-    let p = pid_at(usize::from(number));
+    let p = Pid::at(usize::from(number));
     let new = Creation {
         entry: image.entry,
         stack: image.stack,
@@ -216,7 +215,7 @@ fn ready_all(tables: &mut KernelTables, images: &[Image<'_>])
 {
     let mut number = 1;
     for _image in images {
-        tables.ready(pid_at(number));
+        tables.ready(Pid::at(number));
         number += 1;
     }
 }

@@ -12,14 +12,9 @@ ghost use Rattle.xinu_model.specs.Sound.Tables.{count_in};
 ghost use Rattle.xinu_model.specs.Tables.{process_at, semaphore_at, state_at};
 
 use crate::tables::KernelTables;
-use process_core::pid_at;
+use process_core::{READY, SLEEPERS};
 use queue_table::Lists;
 use xinu_base::{Pid, Sem, State};
-
-// The queues of the ready list and of the sleepers; the waiters of a semaphore are in the queue of its number.
-const READY: usize = 128;
-
-const SLEEPERS: usize = 129;
 
 impl KernelTables {
     /// The one table of linked entries that holds all lists of processes: queue 128 is the ready list, queue 129 the sleepers, and the
@@ -96,7 +91,7 @@ fn first_in(lists: &Lists, q: usize) -> Option<Pid>
     ensures first { result ≡ first_process (list_at (table.lists lists.now) q) }
 {
     let first = lists.first(q)?;
-    Some(pid_at(first))
+    Some(Pid::at(first))
 }
 
 // The process after `p` in a queue.
@@ -106,7 +101,7 @@ fn next_in(lists: &Lists, q: usize, p: Pid) -> Option<Pid>
 {
     let _ = q;
     let next = lists.next_after(p.index())?;
-    Some(pid_at(next))
+    Some(Pid::at(next))
 }
 
 // How many ticks after the sleeper before it a sleeper wakes; how many from now, if it is the first.

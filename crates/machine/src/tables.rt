@@ -16,21 +16,16 @@ ghost use Rattle.xinu_model.specs.Text as text;
 ghost use Rattle.xinu_model.specs.Text.{shown};
 
 use crate::printing::print_line;
-use buffer_pools::{Pools, pool_id_at};
+use buffer_pools::Pools;
 use disk_driver::Disk;
 use file_server::FileServer;
 use freelist_memory::Heap;
 use host_port::{Host, Printer};
 use kernel_state::KernelState;
 use kernel_tables::KernelTables;
-use ports::{Ports, port_numbered};
-use process_core::pid_at;
-use semaphores::sem_at;
+use ports::Ports;
 use tty_driver::Tty;
-use xinu_base::{Dev, Owner, PoolId, Port, Sem, State, TranscriptLine};
-
-/// The first file device.
-const LFILE0: u32 = 4;
+use xinu_base::{Dev, LFILE0, Owner, Pid, PoolId, Port, Sem, State, TranscriptLine};
 
 /// Prints the tables.
 pub(crate) fn print_tables<H: Host>(k: &KernelState, out: &mut Printer, host: &mut H)
@@ -69,7 +64,7 @@ fn print_process<H: Host>(tables: &KernelTables, number: usize, out: &mut Printe
     requires below { number < 64 }
     ensures prints { Prints out.old out.new (H.view host.old) (H.view host.new) (shown out.old.plain (text.process_line number (process_at tables.now number) (message_at tables.now number))) }
 {
-    let p = pid_at(number);
+    let p = Pid::at(number);
     let state = tables.state_of(p);
     if !matches!(state, State::Free) {
         let line = TranscriptLine::Process {
@@ -101,7 +96,7 @@ fn print_semaphores<H: Host>(tables: &KernelTables, out: &mut Printer, host: &mu
     ensures prints { Prints out.old out.new (H.view host.old) (H.view host.new) (shown out.old.plain (text.semaphore_lines 0 tables.now.semaphores)) }
 {
     for number in 0..128 {
-        print_semaphore(tables, sem_at(number), out, host);
+        print_semaphore(tables, Sem::at(number), out, host);
     }
 }
 
@@ -168,7 +163,7 @@ fn print_pools<H: Host>(pools: &Pools, out: &mut Printer, host: &mut H)
     ensures prints { Prints out.old out.new (H.view host.old) (H.view host.new) (shown out.old.plain (text.pool_lines 0 pools.now)) }
 {
     for number in 0..pools.count() {
-        print_pool(pools, pool_id_at(number), out, host);
+        print_pool(pools, PoolId::at(number), out, host);
     }
 }
 
@@ -204,7 +199,7 @@ fn print_ports<H: Host>(ports: &Ports, out: &mut Printer, host: &mut H)
     ensures prints { Prints out.old out.new (H.view host.old) (H.view host.new) (shown out.old.plain (text.port_lines 0 ports.now.ports)) }
 {
     for number in 0..30 {
-        print_port(ports, port_numbered(number), out, host);
+        print_port(ports, Port::at(number), out, host);
     }
 }
 
@@ -273,7 +268,7 @@ fn print_open_file<H: Host>(server: &FileServer, d: usize, out: &mut Printer, ho
         (shown out.old.plain (text.open_file_line (files.LFILE0 + d) (open_at server.now.work.system d) server.now.work.system)) }
 {
     if let Some((position, size)) = server.open_file(d) {
-        let dev = Dev::from_word(LFILE0 + d as u32).unwrap();
+        let dev = Dev::at(LFILE0 as usize + d);
         print_line(&TranscriptLine::OpenFile(dev, position, size), out, host);
     }
 }

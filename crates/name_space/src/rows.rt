@@ -28,7 +28,7 @@ impl Default for Row {
         Row {
             prefix: Text::empty(),
             replacement: Text::empty(),
-            device: Dev::from_word(0).unwrap(),
+            device: Dev::at(0),
         }
     }
 }

@@ -7,7 +7,6 @@
 //!
 //! | Call | Condition | Promise |
 //! |---|---|---|
-//! | `port_numbered` | `below`: the number is below 30 | `port`: the port of that number |
 //! | `new` | | `starts`: no port is in use; or `NoMemory`, in this call alone |
 //! | `place_free` | | `found`: the number that the machine's search finds; `free`: it isn't in use |
 //! | `make` | `counted`: the count isn't negative; `room`: the sequence number doesn't wrap | `made`: the port is in use, with the next number; the next search begins after it |
@@ -27,4 +26,4 @@ mod nodes;
 mod table;
 
 pub use moves::{Received, Sent};
-pub use table::{PortEntry, PortHead, Ports, port_numbered};
+pub use table::{PortEntry, PortHead, Ports};

@@ -9,7 +9,7 @@ ghost use Rattle.xinu_model.specs.Ports.Calls.{renewed};
 ghost use Rattle.xinu_model.specs.Ports.Queues.{most_nodes, nodes, port_at, PortQueue, queued};
 ghost use Rattle.xinu_model.specs.Ports.Queues as model;
 
-use crate::table::{PortEntry, PortHead, Ports, port_numbered};
+use crate::table::{PortEntry, PortHead, Ports};
 use arrayvec::ArrayVec;
 use xinu_base::{Port, PortTicket, Sem};
 
@@ -49,7 +49,7 @@ impl Ports {
             receive,
         };
         self.renew(q, Some(head));
-        self.set_next(port_numbered((q.index() + 1) % 30));
+        self.set_next(Port::at((q.index() + 1) % 30));
     }
 
     /// Makes `q` as it was made, with no messages. Those that it had are the answer, in order. What is left of calls that began

@@ -148,7 +148,7 @@ impl Ports {
         ensures first { result ≡ find (λ q. not (is_used (port_at self.now.ports q))) (numbers_from from (end - from)) }
     {
         for number in from..end {
-            let q = port_numbered(number);
+            let q = Port::at(number);
             if self.is_free(q) {
                 return Some(q);
             }
@@ -162,14 +162,6 @@ impl Ports {
     {
         self.head_of(q).is_none()
     }
-}
-
-/// The port of a number below 30.
-pub fn port_numbered(number: usize) -> Port
-    requires below { number < 30 }
-    ensures port { result ≡ number }
-{
-    Port::from_word(number as u32).unwrap()
 }
 
 // The entry of a port that was never made.

@@ -10,7 +10,7 @@ ghost use Rattle.xinu_model.specs.Process.Creation.{free_process, new_process};
 ghost use Rattle.xinu_model.specs.Searches.{numbers_from};
 ghost use Rattle.xinu_model.specs.Tables.{is_free, message_at, move_to, no_process, Nowhere};
 
-use crate::procs::{Procs, free_entry, pid_at};
+use crate::procs::{Procs, free_entry};
 use queue_table::Lists;
 use xinu_base::{Pid, Process, Rest, State};
 
@@ -72,7 +72,7 @@ impl Procs {
         ensures first { result ≡ find (λ p. is_free (process_in self.now.processes p).state) (numbers_from from (end - from)) }
     {
         for number in from..end {
-            let p = pid_at(number);
+            let p = Pid::at(number);
             if self.is_free(p) {
                 return Some(p);
             }

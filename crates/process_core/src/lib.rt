@@ -35,5 +35,5 @@ mod creation;
 mod procs;
 mod scheduling;
 
-pub use procs::{Procs, pid_at};
+pub use procs::Procs;
 pub use scheduling::{READY, SLEEPERS};

@@ -7,14 +7,14 @@ ghost use Rattle.std.specs.List.{list_all};
 ghost use Rattle.process_core.specs.Fits.{Fits};
 ghost use Rattle.process_core.specs.Starts.{first_table};
 ghost use Rattle.process_core.specs.Tables.{process_in, with_process, with_state};
-ghost use Rattle.xinu_model.specs.Process.Creation.{before_zero};
+ghost use Rattle.xinu_base.specs.Texts as texts;
 ghost use Rattle.xinu_model.specs.Process.Scheduling.{is_current};
 ghost use Rattle.xinu_model.specs.Process.Calls.{is_ready};
 ghost use Rattle.xinu_model.specs.Tables.{is_free, no_process};
 
 use std::alloc::Global;
 use std::marker::Model;
-use xinu_base::{NoMemory, Pid, Process, QUANTUM, Rest, State};
+use xinu_base::{NoMemory, Pid, Process, QUANTUM, Rest, State, before_zero};
 
 /// The entries by process number, who runs now, and for how many ticks it may go on.
 #[derive(Drop)]
@@ -102,9 +102,9 @@ impl Procs {
 
     /// The name of `p`, at most 15 bytes.
     pub fn name_of(&self, p: Pid) -> &[u8]
-        ensures name { result.now ≡ before_zero (process_in self.now.processes p).name }
+        ensures name { result.now ≡ texts.before_zero (process_in self.now.processes p).name }
     {
-        before_first_zero(&self.entries[p.index()].name)
+        before_zero(&self.entries[p.index()].name)
     }
 
     /// The name of `p` as the table has it, with zeros after its end.
@@ -196,14 +196,6 @@ impl Procs {
     }
 }
 
-/// The process of a number below 64.
-pub fn pid_at(number: usize) -> Pid
-    requires below { number < 64 }
-    ensures process { result ≡ number }
-{
-    Pid::from_word(number as u32).unwrap()
-}
-
 /// What is at a free number.
 pub(crate) fn free_entry() -> Process
     ensures entry { result ≡ no_process }
@@ -231,18 +223,4 @@ fn count_alive(processes: &[Process]) -> usize
         }
     }
     count
-}
-
-// The bytes before the first zero.
-fn before_first_zero(bytes: &[u8]) -> &[u8]
-    ensures front { result.now ≡ before_zero bytes.now }
-{
-    let mut end = 0;
-    for b in bytes {
-        if *b == 0 {
-            break;
-        }
-        end += 1;
-    }
-    &bytes[..end]
 }

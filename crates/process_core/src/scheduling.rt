@@ -12,7 +12,7 @@ ghost use Rattle.xinu_model.specs.Process.Calls.{is_ready, with_priority};
 ghost use Rattle.xinu_model.specs.Process.Scheduling as model;
 ghost use Rattle.xinu_model.specs.Tables.{message_at, move_to, Nowhere, process_at};
 
-use crate::procs::{Procs, pid_at};
+use crate::procs::Procs;
 use queue_table::Lists;
 use xinu_base::{Pid, QUANTUM, State};
 
@@ -144,7 +144,7 @@ impl Procs {
     {
         match lists.dequeue(READY) {
             Some(first) => {
-                let next = pid_at(first);
+                let next = Pid::at(first);
                 self.set_current(next);
                 Some(next)
             }

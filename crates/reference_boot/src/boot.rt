@@ -119,7 +119,7 @@ fn with_image(m: &mut Machine, number: u8, image: &Image<'_>) -> Result<(), NoSt
     ensures refuses { IfErr result (λ e. RefusesAs (model.where_stack
         (take_stack (creation.stack_size image.now.stack) m.old.state.parts.heap) number (loaded_of image.now) m.old.state) e) }
 {
-    let p = pid_at(number);
+    let p = Pid::at(usize::from(number));
     let Some(top) = stack_taken(m, image.stack.max(MINSTK)) else {
         return Err(NoStart::NoRoom(number));
     };
@@ -170,7 +170,7 @@ fn all_ready(t: &mut Tables, images: &[Image<'_>]) -> Result<(), NoMemory>
     ensures ready { IfOk result (λ _. t.new ≡ model.all_ready 1 (map loaded_of images.now) t.old) }
 {
     for (i, _image) in images.iter().enumerate() {
-        t.make_ready(pid_at(i as u8 + 1))?;
+        t.make_ready(Pid::at(i + 1))?;
     }
     Ok(())
 }
@@ -190,12 +190,4 @@ fn image_name(number: u8) -> [u8; 15]
     let mut name = *b"image0\0\0\0\0\0\0\0\0\0";
     name[5] += number;
     name
-}
-
-// The process of a number.
-fn pid_at(number: u8) -> Pid
-    requires below { number < 9 }
-    ensures process { result ≡ number }
-{
-    Pid::from_word(u32::from(number)).unwrap()
 }

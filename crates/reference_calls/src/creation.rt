@@ -14,7 +14,7 @@ use crate::memory_calls::stack_taken;
 use reference_state::{Answer, Machine};
 use reference_tables::Place;
 use rv_hart::Hart;
-use xinu_base::{INITRET, MINSTK, NoMemory, Pid, Process, Rest, SYSERR, State};
+use xinu_base::{INITRET, MINSTK, NoMemory, Pid, Process, Rest, SYSERR, State, before_zero};
 
 /// How a process begins: the address of its first instruction, and what is in registers a0 and a1.
 #[derive(Clone, Copy)]
@@ -171,18 +171,4 @@ fn padded(name: &[u8]) -> [u8; 15]
     let mut bytes = [0; 15];
     bytes[..name.len()].copy_from_slice(name);
     bytes
-}
-
-// The bytes before the first zero.
-fn before_zero(bytes: &[u8]) -> &[u8]
-    ensures front { result.now ≡ creation.before_zero bytes.now }
-{
-    let mut end = 0;
-    for b in bytes {
-        if *b == 0 {
-            break;
-        }
-        end += 1;
-    }
-    &bytes[..end]
 }

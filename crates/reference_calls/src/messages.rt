@@ -8,10 +8,7 @@ ghost use Rattle.xinu_model.specs.Words.{signed};
 
 use reference_state::{Answer, Machine};
 use reference_tables::Place;
-use xinu_base::{NoMemory, Rest, SYSERR, State};
-
-// The answer of a call that waited in vain.
-const TIMEOUT: i32 = -3;
+use xinu_base::{NoMemory, Rest, SYSERR, State, TIMEOUT};
 
 /// Call 21: the process of a word is sent a message. Refused if there is no such process or it holds one.
 pub fn send(m: &mut Machine, word: u32, message: u32) -> Result<Answer, NoMemory>

@@ -29,7 +29,7 @@ no_row_above number above = by_found (found_in calls number) refl
     by_found None e = refl
     by_found (Some r) e =
         let n = number_of_row calls number r e in
-        let most = leb-true r.syscall.number 44 (of_row (λ (x : CallRow). leb x.syscall.number 44 ≡ true) calls (all_rows (λ (x : CallRow). leb x.syscall.number 44) calls refl) number r e) in
+        let most = leb-true r.number 44 (of_row (λ (x : CallRow). leb x.number 44 ≡ true) calls (all_rows (λ (x : CallRow). leb x.number 44) calls refl) number r e) in
         absurd (omega (arith, n, most))
 
 pub refused_above : (number : ℕ) (args : List ℕ) (s : Xinu) → 44 < number → refused s ≡ called number args s

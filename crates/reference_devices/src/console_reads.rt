@@ -12,13 +12,10 @@ ghost use Rattle.xinu_model.specs.Sound.Console.{IsSpan};
 use crate::constants::{TY_EOFCH, TY_NEWLINE};
 use crate::ranges::in_ram;
 use reference_state::{Answer, Machine};
-use xinu_base::{Item, NoMemory, Rest, SYSERR, Span, TtyMode};
+use xinu_base::{EOF, Item, NoMemory, Rest, SYSERR, Span, TtyMode};
 
 // The semaphore of the console's input: a token for each item that can be taken.
 const TY_ISEM: u32 = 0;
-
-// The answer at the end of the input.
-const EOF: i32 = -2;
 
 /// `getc`: the next item, for which the caller waits.
 pub fn console_getc(m: &mut Machine) -> Result<Answer, NoMemory>

@@ -9,10 +9,7 @@ ghost use Rattle.xinu_model.specs.Files.Systems as systems;
 use crate::systems::{FileAnswer, OK, copy_at, move_device, open_at, open_bytes, refused, replies};
 use reference_state::{FileSystem, OpenFile};
 use reference_tables::append;
-use xinu_base::NoMemory;
-
-// The answer of a read at the end of a file.
-const EOF: i32 = -2;
+use xinu_base::{EOF, NoMemory};
 
 /// `read`: as many of n bytes as there are; the end of the file is told only to who asks for bytes.
 pub fn read_file(s: &mut FileSystem, d: u32, n: u32) -> Result<FileAnswer, NoMemory>

@@ -22,13 +22,7 @@ use reference_devices::disk::{disk_control, disk_read, disk_write};
 use reference_devices::names::{MappedName, map_name};
 use reference_devices::texts::text_at;
 use reference_state::{Answer, Bytes, FileCall, Machine};
-use xinu_base::{Kind, NoMemory, Op, SYSERR};
-
-// The number of the raw disk.
-const DISK0: i32 = 2;
-
-// The number of the first file device.
-const LFILE0: u32 = 4;
+use xinu_base::{DISK0, Kind, LFILE0, NoMemory, Op, SYSERR};
 
 /// Call 36: a device is opened, with the texts at two addresses as a name and a mode; both have to be there, whatever the device is.
 pub fn device_open(m: &Machine, dev: u32, name: u32, mode: u32) -> Result<DeviceOutcome, NoMemory>

@@ -39,7 +39,7 @@ impl Tables {
         ensures first { result ≡ find (λ p. model.is_free (model.state_at self.now p)) (numbers_from from (end - from)) }
     {
         for number in from..end {
-            let p = pid_at(number);
+            let p = Pid::at(number);
             if self.is_free(p) {
                 return Some(p);
             }
@@ -53,7 +53,7 @@ impl Tables {
         ensures first { result ≡ find (λ sem. not (is_some (model.semaphore_at self.now sem).owner)) (numbers_from from (end - from)) }
     {
         for number in from..end {
-            let sem = sem_at(number);
+            let sem = Sem::at(number);
             if self.is_unused(sem) {
                 return Some(sem);
             }
@@ -74,20 +74,4 @@ impl Tables {
     {
         self.owner_of(sem.index() as u32).is_none()
     }
-}
-
-// The process of a number below 64.
-fn pid_at(number: usize) -> Pid
-    requires below { number < 64 }
-    ensures process { result ≡ number }
-{
-    Pid::from_word(number as u32).unwrap()
-}
-
-// The semaphore of a number below 128.
-fn sem_at(number: usize) -> Sem
-    requires below { number < 128 }
-    ensures semaphore { result ≡ number }
-{
-    Sem::from_word(number as u32).unwrap()
 }

@@ -29,5 +29,5 @@
 mod sems;
 mod waiting;
 
-pub use sems::{SemaphoreEntry, Sems, sem_at};
+pub use sems::{SemaphoreEntry, Sems};
 pub use waiting::Signalled;

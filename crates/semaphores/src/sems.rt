@@ -167,7 +167,7 @@ impl Sems {
         entries[3] = device_entry(0);
         Sems {
             entries,
-            last: sem_at(3),
+            last: Sem::at(3),
         }
     }
 
@@ -192,7 +192,7 @@ impl Sems {
         ensures first { result ≡ find (λ sem. not (is_some (entry_at self.now.entries sem).owner)) (numbers_from from (end - from)) }
     {
         for number in from..end {
-            let sem = sem_at(number);
+            let sem = Sem::at(number);
             if self.is_free(sem) {
                 return Some(sem);
             }
@@ -306,14 +306,6 @@ impl Sems {
     {
         self.entries[sem.index()].count += n as i32;
     }
-}
-
-/// The semaphore of a number below 128.
-pub fn sem_at(number: usize) -> Sem
-    requires below { number < 128 }
-    ensures semaphore { result ≡ number }
-{
-    Sem::from_word(number as u32).unwrap()
 }
 
 // What is at a free number.

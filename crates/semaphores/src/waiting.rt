@@ -12,9 +12,9 @@ ghost use Rattle.xinu_model.specs.Process.Scheduling.{in_state, ready_all};
 ghost use Rattle.xinu_model.specs.Semaphores.Counts.{most_tokens, with_tokens};
 ghost use Rattle.xinu_model.specs.Tables.{InSemaphore, Nowhere, message_at, move_to, process_at, semaphore_at};
 
-use crate::sems::{Sems, sem_at};
+use crate::sems::Sems;
 use arrayvec::ArrayVec;
-use process_core::{Procs, pid_at};
+use process_core::Procs;
 use queue_table::Lists;
 use xinu_base::{Pid, Sem, State};
 
@@ -160,7 +160,7 @@ impl Sems {
         ensures counts { Counts (table.lists lists.new) self.new.entries }
     {
         if let Some(q) = lists.place_of(p.index()) {
-            self.raise(sem_at(q), 1);
+            self.raise(Sem::at(q), 1);
             lists.remove(p.index());
         }
     }
@@ -179,7 +179,7 @@ fn release(lists: &mut Lists, procs: &mut Procs, sem: Sem) -> Option<Pid>
 {
     match lists.dequeue(sem.index()) {
         Some(first) => {
-            let p = pid_at(first);
+            let p = Pid::at(first);
             procs.ready_defer(lists, p);
             Some(p)
         }

@@ -4,12 +4,11 @@ ghost use Rattle.std.specs.Prelude.{◌≡◌, ◌+◌, ◌*◌, ◌++◌, ◌�
 ghost use Rattle.std.specs.Fmt.{decimal, signed_decimal};
 ghost use Rattle.host_port.specs.LineText.{blanked};
 ghost use Rattle.xinu_base.specs.declared.lines.TranscriptLine.TheVariants as variant;
-ghost use Rattle.xinu_model.specs.Process.Creation as processes;
 ghost use Rattle.xinu_base.specs.Names as names;
 ghost use Rattle.xinu_model.specs.Text as model;
 
 use host_port::Line;
-use xinu_base::{Call, Pid, PoolId, State, TranscriptLine, TtyMode, call_args, call_name, is_call};
+use xinu_base::{Call, Pid, PoolId, State, TranscriptLine, TtyMode, before_zero, call_args, call_name, is_call};
 
 /// The text of a line, with its line feed.
 pub fn render(line: &TranscriptLine) -> Line
@@ -267,21 +266,6 @@ fn put_name(text: &mut Line, name: &[u8; 15])
         text.word("");
         text.hex(name);
     }
-}
-
-// The bytes before the first zero.
-fn before_zero(bytes: &[u8]) -> &[u8]
-    ensures front { result.now ≡ processes.before_zero bytes.now }
-    ensures short { length result.now ≤ length bytes.now }
-{
-    let mut end = 0;
-    for b in bytes {
-        if *b == 0 {
-            break;
-        }
-        end += 1;
-    }
-    &bytes[..end]
 }
 
 // Appends the number of a process.

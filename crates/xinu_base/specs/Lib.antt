@@ -3,3 +3,4 @@ pub mod Hexadecimal
 pub mod Insert
 pub mod Names
 pub mod Syscalls
+pub mod Texts

@@ -12,5 +12,17 @@ pub const INITRET: u32 = 0xffff_fffc;
 /// The answer of a call that was refused.
 pub const SYSERR: i32 = -1;
 
+/// The answer of a read at the end of a file.
+pub const EOF: i32 = -2;
+
+/// The answer of a call that waited in vain.
+pub const TIMEOUT: i32 = -3;
+
+/// The number of the raw disk among the devices.
+pub const DISK0: i32 = 2;
+
+/// The number of the first file device.
+pub const LFILE0: u32 = 4;
+
 /// The number of bytes of RAM.
 pub const RAM_SIZE: u32 = 1_048_576;

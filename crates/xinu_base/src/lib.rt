@@ -4,8 +4,9 @@
 //!
 //! | What | Promise |
 //! |---|---|
-//! | [`Below`]: [`Pid`], [`Sem`], [`PoolId`], [`Port`], [`Dev`] | seen as numbers: `from_word` gives one if and only if the word is below the bound, `index` gives it back |
-//! | [`call_name`], [`call_args`], [`is_call`] | the name of a call, how many arguments it takes, and whether a number has one: the table `syscalls` in `specs/Syscalls.antt` |
+//! | [`Below`]: [`Pid`], [`Sem`], [`PoolId`], [`Port`], [`Dev`] | seen as numbers: `from_word` gives one if and only if the word is below the bound, `at` that of a place in the table, `index` gives it back |
+//! | [`call_name`], [`call_args`], [`family_of`], [`is_call`] | the name of a call, how many arguments it takes, its family, and whether a number has one: the table `syscalls` in `specs/Syscalls.antt` |
+//! | [`before_zero`] | the bytes before the first zero |
 //! | all other types | plain data: a contract sees their fields |
 //!
 //! `specs/Insert.antt` has the two insertions of the kernel's lists, `specs/Constants.antt` the constants by the book's names,
@@ -23,9 +24,10 @@ mod processes;
 mod registers;
 mod semaphores;
 mod syscalls;
+mod texts;
 
 pub use console::{Item, TtyMode};
-pub use constants::{INITRET, MINSTK, QUANTUM, RAM_SIZE, SYSERR};
+pub use constants::{DISK0, EOF, INITRET, LFILE0, MINSTK, QUANTUM, RAM_SIZE, SYSERR, TIMEOUT};
 pub use devices::{Kind, Op};
 pub use events::{End, Event};
 pub use files::OpenMode;
@@ -34,7 +36,8 @@ pub use numbers::{Below, Dev, Pid, PoolId, Port, Sem};
 pub use processes::{PortTicket, Process, Rest, Span, State};
 pub use registers::{Cause, Hart, Outcome};
 pub use semaphores::Owner;
-pub use syscalls::{Call, Next, call_args, call_name, is_call};
+pub use syscalls::{CALLS, Call, Family, Next, call_args, call_name, family_of, is_call};
+pub use texts::before_zero;
 
 /// The answer of a call that found no memory.
 #[derive(Clone, Copy, PartialEq, Eq)]

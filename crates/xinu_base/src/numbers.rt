@@ -47,6 +47,14 @@ impl<const N: u8> Below<N> {
         }
     }
 
+    /// The number of a place in the table.
+    pub fn at(index: usize) -> Self
+        requires below { index < N }
+        ensures number { result ≡ index }
+    {
+        Below { number: index as u8 }
+    }
+
     /// The place in the table that the number indexes.
     pub fn index(self) -> usize
         ensures index { result ≡ self.entry }

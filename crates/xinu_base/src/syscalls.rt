@@ -1,6 +1,6 @@
 //! Calls of a process to the kernel.
 
-ghost use Rattle.std.specs.Prelude.{◌≡◌, ◌≤◌, length};
+ghost use Rattle.std.specs.Prelude.{◌≡◌, ◌≤◌, IfSome, length, true};
 ghost use Rattle.xinu_base.specs.Syscalls as syscalls;
 
 /// A call: its number is in register a7, its arguments are in a0 to a5.
@@ -25,13 +25,27 @@ pub enum Next {
     Panics,
 }
 
-/// The calls of the kernel, a row each, in the families that begin them: the number, the name, how many arguments it takes, and how it is
+/// How many calls there are, numbered from 1 on.
+pub const CALLS: u32 = 44;
+
+/// What a call is about: the layers that carry it out.
+#[derive(Clone, Copy, PartialEq, Eq)]
+pub enum Family {
+    /// Processes, memory, semaphores, messages and the clock.
+    Processes,
+    /// Buffer pools and ports.
+    Ports,
+    /// Devices and the name space.
+    Devices,
+}
+
+/// The calls of the kernel, a row each, by their families: the number, the name, how many arguments it takes, and how it is
 /// begun over the state `$k` with the arguments `$args`. The rows are handed to the macro `$arms`, which writes the arms of a body.
 #[macro_export]
 macro_rules! each_call {
     ($arms:ident, $k:ident, $args:ident) => {
         $arms! {
-            core {
+            Processes {
                 1 "getpid" 0 getpid($k);
                 2 "create" 6 create(
                     $k,
@@ -68,6 +82,8 @@ macro_rules! each_call {
                 25 "sleep" 1 sleep($k, signed($args[0]));
                 26 "sleepms" 1 sleepms($k, signed($args[0]));
                 27 "clktime" 0 clktime($k);
+            }
+            Ports {
                 28 "mkbufpool" 2 mkbufpool($k, $args[0], $args[1]);
                 29 "getbuf" 1 getbuf($k, $args[0]);
                 30 "freebuf" 1 freebuf($k, $args[0]);
@@ -77,7 +93,7 @@ macro_rules! each_call {
                 34 "ptsend" 2 ptsend($k, $args[0], $args[1]);
                 35 "ptrecv" 1 ptrecv($k, $args[0]);
             }
-            io {
+            Devices {
                 36 "open" 3 device_open($k, $args[0], $args[1], $args[2]);
                 37 "close" 1 device_close($k, $args[0]);
                 38 "read" 3 device_read($k, $args[0], $args[1], $args[2]);
@@ -92,11 +108,27 @@ macro_rules! each_call {
     };
 }
 
+/// The family of the call of this number, if it has a call.
+pub fn family_of(number: u32) -> Option<Family>
+    ensures family { result ≡ syscalls.family_of number }
+    ensures listed { IfSome result (λ family. syscalls.is_of family number ≡ true) }
+{
+    macro_rules! families {
+        ($($family:ident { $($number:literal $name:literal $count:literal $begin:expr;)* })*) => {
+            match number {
+                $($($number => Some(Family::$family),)*)*
+                _ => None,
+            }
+        };
+    }
+    each_call!(families, k, args)
+}
+
 /// Whether the number has a call.
 pub fn is_call(number: u32) -> bool
     ensures { result ≡ syscalls.is_call number }
 {
-    matches!(number, 1..=44)
+    family_of(number).is_some()
 }
 
 /// The name of the call of this number, and `unknown` for a number that has none.

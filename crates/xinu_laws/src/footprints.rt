@@ -11,12 +11,12 @@ ghost use Rattle.table_laws.specs.Preserve.{AreAlive};
 ghost use Rattle.xinu_model.specs.Rows.{CallRow, found_in};
 ghost use Rattle.xinu_model.specs.Sound.Tables.{IsInside};
 ghost use Rattle.xinu_model.specs.Sound.State.{IsSound};
-ghost use Rattle.xinu_base.specs.Syscalls.{syscalls};
+ghost use Rattle.xinu_base.specs.Syscalls.{Syscall, syscalls};
 ghost use Rattle.xinu_laws.specs.Touches.{Reach, reach, touched_by, stacks_of, KeepsParts, Touches};
 
-/// The rows have the numbers, names and arities that the transcript prints.
+/// The rows have the numbers of the system calls, in their order.
 pub fn rows_are_syscalls()
-    ensures { map (λ (r : CallRow). r.syscall) calls ≡ syscalls }
+    ensures { map (λ (r : CallRow). r.number) calls ≡ map (λ (c : Syscall). c.number) syscalls }
 {}
 
 /// Each call touches no more than its footprint.

@@ -1,12 +1,11 @@
 -- The clock: sleepers, the quantum, and what a tick does (book, chapter 13).
-use Rattle.std.specs.Prelude.{ℕ, zero, suc, ◌+◌, ◌-◌, ◌*◌, ◌/◌, ◌==◌, nat_lt, Bool, true, false, if◌then◌else◌, List, [], map, filter, ℤ, pos, negsuc, ◌∷◌, codes}
+use Rattle.std.specs.Prelude.{ℕ, zero, suc, ◌+◌, ◌-◌, ◌*◌, ◌/◌, ◌==◌, nat_lt, Bool, true, false, if◌then◌else◌, List, [], map, filter, ℤ, pos, negsuc, ◌∷◌}
 use Rattle.xinu_base.specs.Constants.{QUANTUM, OK}
 use Rattle.xinu_base.specs.declared.processes.Rest.TheVariants.{Nothing}
 use Rattle.xinu_base.specs.declared.processes.State.TheVariants.{Sleeping}
 use Rattle.xinu_model.specs.Machine.{Xinu, CallState, CallResult, EventResult, start, unblock_all, returns, refused, blocked, event_result}
 use Rattle.xinu_model.specs.Process.Scheduling.{resched}
 use Rattle.xinu_model.specs.Tables.{Tables, InSleepers}
-use Rattle.xinu_base.specs.Syscalls.{syscall}
 use Rattle.xinu_model.specs.Footprints.{on_tables}
 use Rattle.xinu_model.specs.Rows.{Status, CallRow, row}
 use Rattle.xinu_model.specs.Words.{signed}
@@ -57,7 +56,7 @@ clktime s = returns (start s) (pos (s.tables.ticks / 1000))
 -- the calls on the clock
 abbrev pub clock_calls : List CallRow
 clock_calls =
-    row (syscall 25 (codes "sleep") 1) on_tables Status (λ a s. sleep (signed (a 0)) s) ∷
-    row (syscall 26 (codes "sleepms") 1) on_tables Status (λ a s. sleepms (signed (a 0)) s) ∷
-    row (syscall 27 (codes "clktime") 0) on_tables Status (λ a s. clktime s) ∷
+    row 25 on_tables Status (λ a s. sleep (signed (a 0)) s) ∷
+    row 26 on_tables Status (λ a s. sleepms (signed (a 0)) s) ∷
+    row 27 on_tables Status (λ a s. clktime s) ∷
     []

@@ -1,5 +1,5 @@
 -- Messages: each process has a slot for one word (book, chapter 8).
-use Rattle.std.specs.Prelude.{ℕ, ◌+◌, max, Bool, true, false, not, if◌then◌else◌, ◌&&◌, slice_set, Option, Some, None, is_some, ℤ, pos, negsuc, List, [], ◌∷◌, codes}
+use Rattle.std.specs.Prelude.{ℕ, ◌+◌, max, Bool, true, false, not, if◌then◌else◌, ◌&&◌, slice_set, Option, Some, None, is_some, ℤ, pos, negsuc, List, [], ◌∷◌}
 use Rattle.xinu_base.specs.Constants.{OK, TIMEOUT}
 use Rattle.xinu_base.specs.declared.processes.Rest.TheVariants as rest
 use Rattle.xinu_base.specs.declared.processes.State.{State}
@@ -8,7 +8,6 @@ use Rattle.xinu_model.specs.Machine.{Xinu, CallState, CallResult, start, with_ta
 use Rattle.xinu_model.specs.Process.Scheduling.{in_state}
 use Rattle.xinu_model.specs.Tables.{Tables, process_at, state_at, message_at, is_free, move_to, Nowhere, InReady, InSleepers}
 use Rattle.xinu_model.specs.Words.{signed}
-use Rattle.xinu_base.specs.Syscalls.{syscall}
 use Rattle.xinu_model.specs.Footprints.{on_tables}
 use Rattle.xinu_model.specs.Rows.{Status, Message, CallRow, row}
 
@@ -68,8 +67,8 @@ go_on_receive s = received (held s) (returns (start (goes_on None s)) TIMEOUT) s
 -- the calls on messages
 abbrev pub message_calls : List CallRow
 message_calls =
-    row (syscall 21 (codes "send") 2) on_tables Status (λ a s. send (a 0) (a 1) s) ∷
-    row (syscall 22 (codes "receive") 0) on_tables Message (λ a s. receive s) ∷
-    row (syscall 23 (codes "recvclr") 0) on_tables Message (λ a s. recvclr s) ∷
-    row (syscall 24 (codes "recvtime") 1) on_tables Message (λ a s. recvtime (signed (a 0)) s) ∷
+    row 21 on_tables Status (λ a s. send (a 0) (a 1) s) ∷
+    row 22 on_tables Message (λ a s. receive s) ∷
+    row 23 on_tables Message (λ a s. recvclr s) ∷
+    row 24 on_tables Message (λ a s. recvtime (signed (a 0)) s) ∷
     []

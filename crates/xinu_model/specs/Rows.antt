@@ -2,7 +2,6 @@
 use Rattle.std.specs.Prelude.{ℕ, ◌==◌, if◌then◌else◌, List, [], ◌∷◌, slice_index, Option, Some, None}
 use Rattle.xinu_model.specs.Footprints.{Footprint}
 use Rattle.xinu_model.specs.Machine.{Xinu, CallResult, refused}
-use Rattle.xinu_base.specs.Syscalls.{Syscall}
 
 -- What a call answers unless it is refused: a status or a number, an address, the priority of a process, the count of a semaphore, the
 -- caller's message, or a port's.
@@ -14,21 +13,21 @@ pub data ReplyKind : Type 0 where
   Message : ReplyKind
   PortMessage : ReplyKind
 
--- A call: its number, name and arity, which parts of the state it may change, what it answers, and what it does with its arguments, which
--- go by their place from 0 on.
+-- A call: its number, which parts of the state it may change, what it answers, and what it does with its arguments, which go by their
+-- place from 0 on. Its name, its family and how many arguments it takes are in the table of system calls.
 pub record CallRow : Type 0 where
-  pub syscall : Syscall
+  pub number : ℕ
   pub touches : Footprint
   pub reply : ReplyKind
   pub effect : (ℕ → ℕ) → Xinu → CallResult
 
-abbrev pub row : Syscall → Footprint → ReplyKind → ((ℕ → ℕ) → Xinu → CallResult) → CallRow
-row syscall touches reply effect = record { syscall = syscall; touches = touches; reply = reply; effect = effect }
+abbrev pub row : ℕ → Footprint → ReplyKind → ((ℕ → ℕ) → Xinu → CallResult) → CallRow
+row number touches reply effect = record { number = number; touches = touches; reply = reply; effect = effect }
 
 -- the first row of a number
 abbrev pub found_in : List CallRow → ℕ → Option CallRow
 found_in [] number = None
-found_in (r ∷ rows) number = if number == r.syscall.number then Some r else found_in rows number
+found_in (r ∷ rows) number = if number == r.number then Some r else found_in rows number
 
 -- what a row does; a number without a row is refused
 abbrev pub done_by : Option CallRow → List ℕ → Xinu → CallResult

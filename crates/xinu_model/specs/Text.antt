@@ -17,7 +17,7 @@ use Rattle.xinu_model.specs.Heap.Cells.{free_blocks}
 use Rattle.xinu_model.specs.Machine.{Xinu}
 use Rattle.xinu_model.specs.Pools.Buffers.{BufferPool, held_in}
 use Rattle.xinu_model.specs.Ports.Queues.{PortQueue, MessagePort}
-use Rattle.xinu_model.specs.Process.Creation.{before_zero}
+use Rattle.xinu_base.specs.Texts.{before_zero}
 use Rattle.xinu_model.specs.Semaphores.Counts.{count_of, is_images}
 use Rattle.xinu_model.specs.Tables.{Semaphore, is_free}
 use Rattle.xinu_model.specs.Words.{signed}

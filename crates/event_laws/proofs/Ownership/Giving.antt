@@ -33,7 +33,7 @@ abbrev names_holders : Footprint → Bool
 names_holders f = f.stacks || f.ranges
 
 -- No call that gives memory back may touch stacks or the pools' ranges.
-giving_calls_spare : list_all (λ r. not (gives_back r.syscall.number && names_holders r.touches)) calls ≡ true
+giving_calls_spare : list_all (λ r. not (gives_back r.number && names_holders r.touches)) calls ≡ true
 unfolding calls
 giving_calls_spare = refl
 
@@ -53,9 +53,9 @@ holders_call number args s k g = by_row (found_in calls number) refl
     by_row None e = λ a. refl
     by_row (Some r) e =
         let f = r.touches in
-        let h = spared (gives_back r.syscall.number) f.stacks f.ranges (ap gives_back (number_of_row calls number r e) ∙ g)
-        (of_row (λ x. not (gives_back x.syscall.number && names_holders x.touches) ≡ true) calls
-        (all_rows (λ x. not (gives_back x.syscall.number && names_holders x.touches)) calls giving_calls_spare) number r e) in
+        let h = spared (gives_back r.number) f.stacks f.ranges (ap gives_back (number_of_row calls number r e) ∙ g)
+        (of_row (λ x. not (gives_back x.number && names_holders x.touches) ≡ true) calls
+        (all_rows (λ x. not (gives_back x.number && names_holders x.touches)) calls giving_calls_spare) number r e) in
         let t : Touches (reach f) s (done_by (Some r) args s).call.state = subst (λ x. Touches (reach f) s (done_by x args s).call.state) e
         (call_touches number args s r k e) in
         holders_kept s (done_by (Some r) args s).call.state (t.parts.ranges h.1) (t.stacks h.0)

@@ -44,7 +44,7 @@ use Rattle.event_laws.proofs.Reply.Calm.{Calm, refused_calm, returns_calm, eithe
 
 -- A row in which the kernel panics is that of a send, while all ports together are full.
 abbrev PanicsFull : CallRow → Type 0
-PanicsFull r = (a : ℕ → ℕ) (s : Xinu) → (r.effect a s).answer ≡ Panics → (r.syscall.number ≡ 34) × (most_nodes ≤ nodes s.parts.ports)
+PanicsFull r = (a : ℕ → ℕ) (s : Xinu) → (r.effect a s).answer ≡ Panics → (r.number ≡ 34) × (most_nodes ≤ nodes s.parts.ports)
 
 -- Row by row.
 rows_panic : AllByRecursion PanicsFull calls

@@ -19,7 +19,7 @@ pub(crate) fn push_pools(
     ensures pushed { IfOk result (λ _. lines.new.items ≡ lines.old.items ++ model.pool_lines 0 list.now) }
 {
     for (number, pool) in list.iter().enumerate() {
-        push_pool(lines, pool_id_at(number), pool)?;
+        push_pool(lines, PoolId::at(number), pool)?;
     }
     Ok(())
 }
@@ -93,12 +93,4 @@ fn is_in(a: u32, list: &[u32]) -> bool
         }
     }
     false
-}
-
-// The pool of a number below 20.
-fn pool_id_at(number: usize) -> PoolId
-    requires below { number < 20 }
-    ensures pool { result ≡ number }
-{
-    PoolId::from_word(number as u32).unwrap()
 }

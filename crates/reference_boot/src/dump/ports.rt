@@ -19,7 +19,7 @@ pub(crate) fn push_ports(
     ensures pushed { IfOk result (λ _. lines.new.items ≡ lines.old.items ++ model.port_lines 0 ports.now) }
 {
     for (number, port) in ports.iter().enumerate() {
-        push_port(lines, port_numbered(number), port)?;
+        push_port(lines, Port::at(number), port)?;
     }
     Ok(())
 }
@@ -65,12 +65,4 @@ fn push_nodes(lines: &mut Vec<TranscriptLine>, q: Port, messages: &[u32]) -> Res
         push(lines, TranscriptLine::Node(q, *message))?;
     }
     Ok(())
-}
-
-// The port of a number below 30.
-fn port_numbered(number: usize) -> Port
-    requires below { number < 30 }
-    ensures port { result ≡ number }
-{
-    Port::from_word(number as u32).unwrap()
 }

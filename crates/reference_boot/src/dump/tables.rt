@@ -55,7 +55,7 @@ fn push_process(
     push(
         lines,
         TranscriptLine::Process {
-            process: pid_at(number),
+            process: Pid::at(number),
             state: x.state,
             priority: x.priority,
             parent: x.parent,
@@ -109,7 +109,7 @@ fn push_semaphores(
     ensures pushed { IfOk result (λ _. lines.new.items ≡ lines.old.items ++ model.semaphore_lines 0 semaphores.now) }
 {
     for (number, x) in semaphores.iter().enumerate() {
-        push_semaphore(lines, sem_at(number), x)?;
+        push_semaphore(lines, Sem::at(number), x)?;
     }
     Ok(())
 }
@@ -153,20 +153,4 @@ fn push_waiters(lines: &mut Vec<TranscriptLine>, sem: Sem, waiters: &[Pid]) -> R
         push(lines, TranscriptLine::Waiter(sem, *p))?;
     }
     Ok(())
-}
-
-// The process of a number below 64.
-fn pid_at(number: usize) -> Pid
-    requires below { number < 64 }
-    ensures process { result ≡ number }
-{
-    Pid::from_word(number as u32).unwrap()
-}
-
-// The semaphore of a number below 128.
-fn sem_at(number: usize) -> Sem
-    requires below { number < 128 }
-    ensures semaphore { result ≡ number }
-{
-    Sem::from_word(number as u32).unwrap()
 }

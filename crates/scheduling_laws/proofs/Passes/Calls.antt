@@ -35,7 +35,7 @@ module _ {May Touch : ℕ → Type 0} {Begins : Tables → Type 0} {Holds : Tabl
   -- a row settles
   abbrev SettlesRow : CallRow → Type 0
   SettlesRow r = (a : ℕ → ℕ) (s : Xinu) → IsSoundTables s.tables → HaveKernels Touch s.parts → Begins s.tables
-      → MayMake May Touch r.syscall.number (a 0) → Settled Holds (r.effect a s)
+      → MayMake May Touch r.number (a 0) → Settled Holds (r.effect a s)
 
   -- Row by row.
   rows_settle : AllByRecursion SettlesRow calls

@@ -17,7 +17,7 @@ CallLaw = ℕ → Xinu → Xinu → Type 0
 
 -- A row obeys it.
 abbrev pub Obeys : CallLaw → CallRow → Type 0
-Obeys Law r = (a : ℕ → ℕ) (s : Xinu) → IsSound s → Law r.syscall.number s (r.effect a s).call.state
+Obeys Law r = (a : ℕ → ℕ) (s : Xinu) → IsSound s → Law r.number s (r.effect a s).call.state
 
 -- The law holds if nothing happens, and of any step whose footprint doesn't name the parts; and the few calls obey it whose footprint does.
 pub record IsLawOfFew (names : Footprint → Bool) (Law : CallLaw) : Type 0 where

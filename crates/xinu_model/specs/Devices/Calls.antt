@@ -1,8 +1,7 @@
 -- The calls on devices: each goes to the device that its first argument names, if that offers it (book, chapter 14). Calls on the
 -- file system and on files are judged by their arguments as they are made, and by the files as they take effect.
-use Rattle.std.specs.Prelude.{ℕ, ◌-◌, ◌%◌, if◌then◌else◌, List, [], ◌∷◌, Option, Some, None, ℤ, pos, codes}
+use Rattle.std.specs.Prelude.{ℕ, ◌-◌, ◌%◌, if◌then◌else◌, List, [], ◌∷◌, Option, Some, None, ℤ, pos}
 use Rattle.xinu_base.specs.Constants.{OK}
-use Rattle.xinu_base.specs.Syscalls.{syscall}
 use Rattle.xinu_base.specs.declared.devices.Kind.{Kind}
 use Rattle.xinu_base.specs.declared.devices.Kind.TheVariants as kind
 use Rattle.xinu_base.specs.declared.devices.Op.{Op}
@@ -150,13 +149,13 @@ device_control dev f x s = on_device op.Control dev (control_as dev f x) s
 -- the calls on devices; a character is the lowest byte of its word
 abbrev pub device_calls : List CallRow
 device_calls =
-    row (syscall 36 (codes "open") 3) on_files Status (λ a s. device_open (a 0) (a 1) (a 2) s) ∷
-    row (syscall 37 (codes "close") 1) on_files Status (λ a s. device_close (a 0) s) ∷
-    row (syscall 38 (codes "read") 3) on_devices Status (λ a s. device_read (a 0) (a 1) (a 2) s) ∷
-    row (syscall 39 (codes "write") 3) on_devices Status (λ a s. device_write (a 0) (a 1) (a 2) s) ∷
-    row (syscall 40 (codes "getc") 1) on_console_or_files Status (λ a s. device_getc (a 0) s) ∷
-    row (syscall 41 (codes "putc") 2) on_console_or_files Status (λ a s. device_putc (a 0) (a 1 % 256) s) ∷
-    row (syscall 42 (codes "seek") 2) on_files Status (λ a s. device_seek (a 0) (signed (a 1)) s) ∷
-    row (syscall 43 (codes "control") 3) on_console_or_files Status (λ a s. device_control (a 0) (a 1) (a 2) s) ∷
-    row (syscall 44 (codes "mount") 3) on_names Status (λ a s. mount (a 0) (a 1) (a 2) s) ∷
+    row 36 on_files Status (λ a s. device_open (a 0) (a 1) (a 2) s) ∷
+    row 37 on_files Status (λ a s. device_close (a 0) s) ∷
+    row 38 on_devices Status (λ a s. device_read (a 0) (a 1) (a 2) s) ∷
+    row 39 on_devices Status (λ a s. device_write (a 0) (a 1) (a 2) s) ∷
+    row 40 on_console_or_files Status (λ a s. device_getc (a 0) s) ∷
+    row 41 on_console_or_files Status (λ a s. device_putc (a 0) (a 1 % 256) s) ∷
+    row 42 on_files Status (λ a s. device_seek (a 0) (signed (a 1)) s) ∷
+    row 43 on_console_or_files Status (λ a s. device_control (a 0) (a 1) (a 2) s) ∷
+    row 44 on_names Status (λ a s. mount (a 0) (a 1) (a 2) s) ∷
     []

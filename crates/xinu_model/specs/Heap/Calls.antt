@@ -1,10 +1,9 @@
 -- The heap as processes call it (book, chapter 9).
-use Rattle.std.specs.Prelude.{ℕ, Option, Some, None, pos, List, [], ◌∷◌, codes}
+use Rattle.std.specs.Prelude.{ℕ, Option, Some, None, pos, List, [], ◌∷◌}
 use Rattle.xinu_base.specs.Constants.{OK}
 use Rattle.xinu_model.specs.Heap.Cells as heap
 use Rattle.xinu_model.specs.Heap.Cells.{Heap, Grant, Stack}
 use Rattle.xinu_model.specs.Machine.{Xinu, CallResult, start, returns, refused}
-use Rattle.xinu_base.specs.Syscalls.{syscall}
 use Rattle.xinu_model.specs.Footprints.{on_heap}
 use Rattle.xinu_model.specs.Rows.{Status, Address, CallRow, row}
 
@@ -42,8 +41,8 @@ freestk a n s = given_back (heap.free_stack a n s.parts.heap) s
 -- the calls on the heap
 abbrev pub memory_calls : List CallRow
 memory_calls =
-    row (syscall 10 (codes "getmem") 1) on_heap Address (λ a s. getmem (a 0) s) ∷
-    row (syscall 11 (codes "freemem") 2) on_heap Status (λ a s. freemem (a 0) (a 1) s) ∷
-    row (syscall 12 (codes "getstk") 1) on_heap Address (λ a s. getstk (a 0) s) ∷
-    row (syscall 13 (codes "freestk") 2) on_heap Status (λ a s. freestk (a 0) (a 1) s) ∷
+    row 10 on_heap Address (λ a s. getmem (a 0) s) ∷
+    row 11 on_heap Status (λ a s. freemem (a 0) (a 1) s) ∷
+    row 12 on_heap Address (λ a s. getstk (a 0) s) ∷
+    row 13 on_heap Status (λ a s. freestk (a 0) (a 1) s) ∷
     []

@@ -1,5 +1,5 @@
 -- Buffer pools as processes call them (book, chapter 10).
-use Rattle.std.specs.Prelude.{ℕ, ◌-◌, nat_le, nat_lt, Bool, if◌then◌else◌, ◌&&◌, List, [], ◌∷◌, ◌++◌, length, slice_set, Option, Some, None, pos, codes}
+use Rattle.std.specs.Prelude.{ℕ, ◌-◌, nat_le, nat_lt, Bool, if◌then◌else◌, ◌&&◌, List, [], ◌∷◌, ◌++◌, length, slice_set, Option, Some, None, pos}
 use Rattle.xinu_base.specs.Constants.{OK}
 use Rattle.xinu_base.specs.declared.processes.Rest.TheVariants.{GetBuf}
 use Rattle.xinu_base.specs.declared.semaphores.Owner.TheVariants.{Pool}
@@ -10,7 +10,6 @@ use Rattle.xinu_model.specs.Messages.{held}
 use Rattle.xinu_model.specs.Pools.Buffers.{most_pools, pool_at, pool_bytes, whole_words, new_pool, meets_pool, holder, with_free}
 use Rattle.xinu_model.specs.Semaphores.Counts.{free_semaphore, make_semaphore}
 use Rattle.xinu_model.specs.Semaphores.Waiting.{signalled, await}
-use Rattle.xinu_base.specs.Syscalls.{syscall}
 use Rattle.xinu_model.specs.Footprints.{on_buffers, on_pools, on_new_pool}
 use Rattle.xinu_model.specs.Rows.{Status, Address, CallRow, row}
 
@@ -90,7 +89,7 @@ freebuf a s = freed_by (holder a s.parts.pools) a s
 -- the calls on pools
 abbrev pub pool_calls : List CallRow
 pool_calls =
-    row (syscall 28 (codes "mkbufpool") 2) on_new_pool Status (λ a s. mkbufpool (a 0) (a 1) s) ∷
-    row (syscall 29 (codes "getbuf") 1) on_buffers Address (λ a s. getbuf (a 0) s) ∷
-    row (syscall 30 (codes "freebuf") 1) on_pools Status (λ a s. freebuf (a 0) s) ∷
+    row 28 on_new_pool Status (λ a s. mkbufpool (a 0) (a 1) s) ∷
+    row 29 on_buffers Address (λ a s. getbuf (a 0) s) ∷
+    row 30 on_pools Status (λ a s. freebuf (a 0) s) ∷
     []

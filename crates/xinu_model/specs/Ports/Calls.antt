@@ -1,5 +1,5 @@
 -- Ports as processes call them (book, chapter 11).
-use Rattle.std.specs.Prelude.{ℕ, ◌+◌, ◌%◌, ◌==◌, nat_le, not, if◌then◌else◌, List, [], ◌∷◌, ◌++◌, slice_set, Option, Some, None, ℤ, pos, negsuc, codes}
+use Rattle.std.specs.Prelude.{ℕ, ◌+◌, ◌%◌, ◌==◌, nat_le, not, if◌then◌else◌, List, [], ◌∷◌, ◌++◌, slice_set, Option, Some, None, ℤ, pos, negsuc}
 use Rattle.xinu_base.specs.Constants.{OK}
 use Rattle.xinu_base.specs.declared.processes.PortTicket.{PortTicket}
 use Rattle.xinu_base.specs.declared.processes.Rest.TheVariants.{PtSend, PtRecv}
@@ -13,7 +13,6 @@ use Rattle.xinu_model.specs.Semaphores.Counts.{free_semaphore, make_semaphore, w
 use Rattle.xinu_model.specs.Semaphores.Waiting.{signalled, emptied, await}
 use Rattle.xinu_model.specs.Tables.{no_semaphore}
 use Rattle.xinu_model.specs.Words.{signed}
-use Rattle.xinu_base.specs.Syscalls.{syscall}
 use Rattle.xinu_model.specs.Footprints.{on_ports, on_ports_and_pools}
 use Rattle.xinu_model.specs.Rows.{Status, PortMessage, CallRow, row}
 
@@ -179,9 +178,9 @@ go_on_ptrecv ticket s = finish_receive ticket (goes_on (held s) s)
 -- the calls on ports
 abbrev pub port_calls : List CallRow
 port_calls =
-    row (syscall 31 (codes "ptcreate") 1) on_ports Status (λ a s. ptcreate (signed (a 0)) s) ∷
-    row (syscall 32 (codes "ptdelete") 2) on_ports_and_pools Status (λ a s. ptdelete (a 0) (a 1) s) ∷
-    row (syscall 33 (codes "ptreset") 2) on_ports_and_pools Status (λ a s. ptreset (a 0) (a 1) s) ∷
-    row (syscall 34 (codes "ptsend") 2) on_ports Status (λ a s. ptsend (a 0) (a 1) s) ∷
-    row (syscall 35 (codes "ptrecv") 1) on_ports PortMessage (λ a s. ptrecv (a 0) s) ∷
+    row 31 on_ports Status (λ a s. ptcreate (signed (a 0)) s) ∷
+    row 32 on_ports_and_pools Status (λ a s. ptdelete (a 0) (a 1) s) ∷
+    row 33 on_ports_and_pools Status (λ a s. ptreset (a 0) (a 1) s) ∷
+    row 34 on_ports Status (λ a s. ptsend (a 0) (a 1) s) ∷
+    row 35 on_ports PortMessage (λ a s. ptrecv (a 0) s) ∷
     []

@@ -1,5 +1,5 @@
 -- Processes: how they are made, run, stopped and ended (book, chapters 4 to 6).
-use Rattle.std.specs.Prelude.{ℕ, ◌==◌, Bool, true, false, not, if◌then◌else◌, ◌||◌, List, take, drop, slice_set, Option, Some, None, ℤ, pos, int_lt, [], ◌∷◌, codes}
+use Rattle.std.specs.Prelude.{ℕ, ◌==◌, Bool, true, false, not, if◌then◌else◌, ◌||◌, List, take, drop, slice_set, Option, Some, None, ℤ, pos, int_lt, [], ◌∷◌}
 use Rattle.xinu_base.specs.Constants.{OK}
 use Rattle.xinu_base.specs.declared.processes.Rest.TheVariants.{SelfSuspend}
 use Rattle.xinu_base.specs.declared.processes.State.{State}
@@ -12,7 +12,6 @@ use Rattle.xinu_model.specs.Process.Scheduling.{is_current, in_state}
 use Rattle.xinu_model.specs.Tables.{Tables, process_at, state_at, message_at, is_free, move_to, Nowhere, InReady}
 use Rattle.xinu_model.specs.Process.Creation.{stack_size, new_hart, process_name, new_process, free_process, make_process}
 use Rattle.xinu_model.specs.Process.Death.{killed, exit}
-use Rattle.xinu_base.specs.Syscalls.{syscall}
 use Rattle.xinu_model.specs.Footprints.{on_tables, on_processes, on_deaths}
 use Rattle.xinu_model.specs.Rows.{Status, Priority, CallRow, row}
 use Rattle.xinu_model.specs.Words.{half}
@@ -94,13 +93,13 @@ go_on_suspend s = returns (start (goes_on (held s) s)) (process_at s.tables s.ta
 -- the calls on processes
 abbrev pub process_calls : List CallRow
 process_calls =
-    row (syscall 1 (codes "getpid") 0) on_tables Status (λ a s. getpid s) ∷
-    row (syscall 2 (codes "create") 6) on_processes Status (λ a s. create (a 0) (a 1) (half (a 2)) (a 3) (a 4) (a 5) s) ∷
-    row (syscall 3 (codes "resume") 1) on_tables Priority (λ a s. resume (a 0) s) ∷
-    row (syscall 4 (codes "suspend") 1) on_tables Priority (λ a s. suspend (a 0) s) ∷
-    row (syscall 5 (codes "kill") 1) on_deaths Status (λ a s. kill (a 0) s) ∷
-    row (syscall 6 (codes "yield") 0) on_tables Status (λ a s. yield s) ∷
-    row (syscall 7 (codes "chprio") 2) on_tables Priority (λ a s. chprio (a 0) (half (a 1)) s) ∷
-    row (syscall 8 (codes "getprio") 1) on_tables Priority (λ a s. getprio (a 0) s) ∷
-    row (syscall 9 (codes "exit") 0) on_deaths Status (λ a s. exit s) ∷
+    row 1 on_tables Status (λ a s. getpid s) ∷
+    row 2 on_processes Status (λ a s. create (a 0) (a 1) (half (a 2)) (a 3) (a 4) (a 5) s) ∷
+    row 3 on_tables Priority (λ a s. resume (a 0) s) ∷
+    row 4 on_tables Priority (λ a s. suspend (a 0) s) ∷
+    row 5 on_deaths Status (λ a s. kill (a 0) s) ∷
+    row 6 on_tables Status (λ a s. yield s) ∷
+    row 7 on_tables Priority (λ a s. chprio (a 0) (half (a 1)) s) ∷
+    row 8 on_tables Priority (λ a s. getprio (a 0) s) ∷
+    row 9 on_deaths Status (λ a s. exit s) ∷
     []

@@ -1,6 +1,7 @@
 -- New processes: number, stack, registers and name (book, chapters 4 to 6).
-use Rattle.std.specs.Prelude.{ℕ, zero, suc, ◌+◌, ◌-◌, ◌*◌, ◌%◌, max, List, [], ◌∷◌, ◌++◌, take, replicate, slice_set, Option, None, ℤ}
+use Rattle.std.specs.Prelude.{ℕ, ◌+◌, ◌-◌, ◌*◌, ◌%◌, max, List, ◌∷◌, ◌++◌, take, replicate, slice_set, Option, None, ℤ}
 use Rattle.xinu_base.specs.Constants.{NPROC, MINSTK, INITRET}
+use Rattle.xinu_base.specs.Texts.{before_zero}
 use Rattle.xinu_base.specs.declared.processes.Process.{Process}
 use Rattle.xinu_base.specs.declared.processes.Rest.TheVariants.{Nothing}
 use Rattle.xinu_base.specs.declared.processes.State.TheVariants.{Suspended}
@@ -20,12 +21,6 @@ new_hart entry top x y = record {
   regs = 0 ∷ INITRET ∷ (top - top % 16) ∷ replicate 7 0 ++ x ∷ y ∷ replicate 20 0;
   pc = entry;
 }
-
--- the bytes before the first zero
-abbrev pub before_zero : List ℕ → List ℕ
-before_zero [] = []
-before_zero (zero ∷ bytes) = []
-before_zero (suc b ∷ bytes) = suc b ∷ before_zero bytes
 
 -- a name as a process has it: at most fifteen bytes, with zeros after its end
 abbrev pub process_name : List ℕ → List ℕ

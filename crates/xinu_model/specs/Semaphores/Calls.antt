@@ -1,5 +1,5 @@
 -- Semaphores: tokens, and the processes that wait for one (book, chapter 7).
-use Rattle.std.specs.Prelude.{ℕ, not, if◌then◌else◌, ◌&&◌, Option, Some, None, ℤ, pos, negsuc, ◌+ℤ◌, int_lt, List, [], ◌∷◌, codes}
+use Rattle.std.specs.Prelude.{ℕ, not, if◌then◌else◌, ◌&&◌, Option, Some, None, ℤ, pos, negsuc, ◌+ℤ◌, int_lt, List, [], ◌∷◌}
 use Rattle.xinu_base.specs.Constants.{OK, SYSERR}
 use Rattle.xinu_base.specs.declared.processes.Rest.TheVariants.{Nothing}
 use Rattle.xinu_base.specs.declared.semaphores.Owner.TheVariants as owner
@@ -7,7 +7,6 @@ use Rattle.xinu_model.specs.Machine.{Xinu, CallResult, start, with_tables, retur
 use Rattle.xinu_model.specs.Tables.{no_semaphore, semaphore_at}
 use Rattle.xinu_model.specs.Semaphores.Counts.{most_tokens, with_semaphore, with_tokens, count_of, is_good, free_semaphore, make_semaphore}
 use Rattle.xinu_model.specs.Semaphores.Waiting.{signalled, signalled_times, emptied, emptied_with, await}
-use Rattle.xinu_base.specs.Syscalls.{syscall}
 use Rattle.xinu_model.specs.Footprints.{on_tables}
 use Rattle.xinu_model.specs.Rows.{Status, Count, CallRow, row}
 use Rattle.xinu_model.specs.Words.{signed}
@@ -68,11 +67,11 @@ signaln sem (pos n) s =
 -- the calls on semaphores
 abbrev pub semaphore_calls : List CallRow
 semaphore_calls =
-    row (syscall 14 (codes "semcreate") 1) on_tables Status (λ a s. semcreate (signed (a 0)) s) ∷
-    row (syscall 15 (codes "semdelete") 1) on_tables Status (λ a s. semdelete (a 0) s) ∷
-    row (syscall 16 (codes "semreset") 2) on_tables Status (λ a s. semreset (a 0) (signed (a 1)) s) ∷
-    row (syscall 17 (codes "semcount") 1) on_tables Count (λ a s. semcount (a 0) s) ∷
-    row (syscall 18 (codes "wait") 1) on_tables Status (λ a s. wait (a 0) s) ∷
-    row (syscall 19 (codes "signal") 1) on_tables Status (λ a s. signal (a 0) s) ∷
-    row (syscall 20 (codes "signaln") 2) on_tables Status (λ a s. signaln (a 0) (signed (a 1)) s) ∷
+    row 14 on_tables Status (λ a s. semcreate (signed (a 0)) s) ∷
+    row 15 on_tables Status (λ a s. semdelete (a 0) s) ∷
+    row 16 on_tables Status (λ a s. semreset (a 0) (signed (a 1)) s) ∷
+    row 17 on_tables Count (λ a s. semcount (a 0) s) ∷
+    row 18 on_tables Status (λ a s. wait (a 0) s) ∷
+    row 19 on_tables Status (λ a s. signal (a 0) s) ∷
+    row 20 on_tables Status (λ a s. signaln (a 0) (signed (a 1)) s) ∷
     []

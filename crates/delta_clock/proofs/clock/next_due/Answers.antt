@@ -24,4 +24,4 @@ returns-in-Some-dequeue-clause-first c =
     let new : list_at (lists c.dequeue.new.self) 129 ≡ rest_of l
     = ap (λ ls. list_at ls 129) c.dequeue.ensures.lists ∙ list_at-same (lists t) 129 (rest_of l) (omega (arith, queues_of t)) in
     first_zero l c.in-Some.key p c.in-Some.ensures.key c.in-Some-dequeue.ensures.first c.requires.delta below
-    ∙ ap (λ q. (q, pos 0) ∷ rest_of l) (sym c.pid_at.ensures.process) ∙ ap (λ m. (c.pid_at.result, pos 0) ∷ m) (sym new)
+    ∙ ap (λ q. (q, pos 0) ∷ rest_of l) (sym c.at.ensures.number) ∙ ap (λ m. (c.at.result, pos 0) ∷ m) (sym new)

@@ -13,6 +13,6 @@ loop-number-preserved c =
     let n = c.loop-number.number in
     let tables = c.args.tables.now in
     let t = c.args.text.now.items in
-    let one = c.in_ok-push_if_thread.ensures.appended ∙ ap (λ p. c.loop-number.text.items ++ entry_if (is_thread tables p) tables p) c.pid_at.ensures.process in
+    let one = c.in_ok-push_if_thread.ensures.appended ∙ ap (λ p. c.loop-number.text.items ++ entry_if (is_thread tables p) tables p) c.at.ensures.number in
     both t (threads_below tables n) (entry_if (is_thread tables n) tables n) _ _ c.loop-number.invariant one
     ∙ ap (λ l. t ++ l) (sym (threads_below-more tables n))

@@ -9,7 +9,7 @@ returns-then-waits_on c =
     let t = c.args.tables.now in
     let n = c.loop-number.number in
     let p = c.args.p in
-    let is = c.sem_at-sem.ensures.semaphore in
+    let is = c.at-sem.ensures.number in
     let more : 128 - n ≡ suc (127 - n) = omega (arith, c.loop-number-test.true) in
     let yes : waits_on t n p ≡ true = ap (λ s. waits_on t s p) (sym is) ∙ sym c.waits_on.ensures.waits ∙ c.if-waits_on.true in
     record { semaphore = ap Some is ∙ sym (c.loop-number.invariant ∙ awaited_here t p n (128 - n) (127 - n) more yes) }
@@ -19,7 +19,7 @@ loop-number-preserved c =
     let t = c.args.tables.now in
     let n = c.loop-number.number in
     let p = c.args.p in
-    let is = c.sem_at-sem.ensures.semaphore in
+    let is = c.at-sem.ensures.number in
     let more : 128 - n ≡ suc (128 - (n + 1)) = omega (arith, c.loop-number-test.true) in
     let no : waits_on t n p ≡ false = ap (λ s. waits_on t s p) (sym is) ∙ sym c.waits_on.ensures.waits ∙ c.if-waits_on.false in
     c.loop-number.invariant ∙ awaited_next t p n (128 - n) (128 - (n + 1)) more no

@@ -16,4 +16,4 @@ returns c =
     let ls = table.lists c.args.lists.now in
     let i = ap (λ (q : ℕ). after_in q (list_of ls q)) c.index.ensures.index in
     let e = list_of-placed ls c.args.p c.args.q c.requires.placed in
-    record { next = ap Some c.pid_at.ensures.process ∙ sym c.in_ok-next.was ∙ c.next_after.ensures.next ∙ i ∙ ap (after_in c.args.p) e }
+    record { next = ap Some c.at.ensures.number ∙ sym c.in_ok-next.was ∙ c.next_after.ensures.next ∙ i ∙ ap (after_in c.args.p) e }

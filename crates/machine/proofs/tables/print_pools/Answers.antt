@@ -6,4 +6,4 @@ pub loop-number-preserved : goal.loop-number-preserved
 loop-number-preserved g c =
     let count = c.count-number-end.ensures.count in
     let within = c.loop-number-test.true in
-    printed_pool c.args.pools.now c.loop-number.number c.pool_id_at.result _ _ _ _ _ _ (omega (arith, count, within)) c.pool_id_at.ensures.pool c.loop-number.invariant c.print_pool.ensures.prints
+    printed_pool c.args.pools.now c.loop-number.number c.at.result _ _ _ _ _ _ (omega (arith, count, within)) c.at.ensures.number c.loop-number.invariant c.print_pool.ensures.prints

@@ -6,4 +6,4 @@ pub loop-number-preserved : goal.loop-number-preserved
 loop-number-preserved g c =
     let many = c.requires.many in
     let within = c.loop-number-test.true in
-    printed_port c.args.ports.now.ports c.loop-number.number c.port_numbered.result _ _ _ _ _ _ (omega (arith, many, within)) c.port_numbered.ensures.port c.loop-number.invariant c.print_port.ensures.prints
+    printed_port c.args.ports.now.ports c.loop-number.number c.at.result _ _ _ _ _ _ (omega (arith, many, within)) c.at.ensures.number c.loop-number.invariant c.print_port.ensures.prints

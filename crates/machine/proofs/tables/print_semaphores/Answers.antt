@@ -7,4 +7,4 @@ loop-number-preserved g c =
     let t = c.args.tables.now in
     let size = c.requires.inside.semaphores in
     let within = c.loop-number-test.true in
-    printed_semaphore t c.loop-number.number c.sem_at.result _ _ _ _ _ _ (omega (arith, size, within)) c.sem_at.ensures.semaphore c.loop-number.invariant c.print_semaphore.ensures.prints
+    printed_semaphore t c.loop-number.number c.at.result _ _ _ _ _ _ (omega (arith, size, within)) c.at.ensures.number c.loop-number.invariant c.print_semaphore.ensures.prints

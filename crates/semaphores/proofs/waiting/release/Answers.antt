@@ -14,7 +14,7 @@ ready_defer-requires-clause-absent c =
     let sem = c.index.result in
     let f = first_is (list_at (lists t) sem) c.in-Some.first c.in-Some.ensures.first in
     let b : sem < 128 = c.index.ensures.bound in
-    rw (c.dequeue.ensures.lists, c.pid_at-p.ensures.process)
+    rw (c.dequeue.ensures.lists, c.at-p.ensures.number)
     ((place_rest t sem (c.in-Some.first, f.0) (rest_of (list_at (lists t) sem)) (omega arith) f.1).0)
 
 pub ready_defer-requires-clause-fits : goal.ready_defer-requires-clause-fits
@@ -36,7 +36,7 @@ returns-in-Some-clause-readied c b =
     let l = rest_of (list_at (lists t) sem) in
     let u = tables_of (lists t) s b in
     c.ready_defer.ensures.readied b
-    ∙ ap (λ q. ready q (tables_of (lists c.dequeue.new.self) s b)) c.pid_at-p.ensures.process
+    ∙ ap (λ q. ready q (tables_of (lists c.dequeue.new.self) s b)) c.at-p.ensures.number
     ∙ ap (λ ls. ready p (tables_of ls s b)) c.dequeue.ensures.lists
     ∙ ap (ready p) (first_left t s b sem (p, f.0) l c.index.ensures.bound f.1)
     ∙ ready-left p u

@@ -14,5 +14,5 @@ returns-then-is_held-clause-holder c =
     let held : is_held a (pool_at made k) ≡ true =
     ap (is_held a) (sym (made_at p.made k p.pools.items c.index-pool.result.now (omega arith) (omega arith) c.index-pool.ensures))
     ∙ sym c.is_held.ensures.held ∙ c.if-is_held.true in
-    ap Some c.pool_id_at.ensures.pool ∙ sym (holder_here a k made (omega arith) held) ∙ sym c.loop-k.invariant
+    ap Some c.at.ensures.number ∙ sym (holder_here a k made (omega arith) held) ∙ sym c.loop-k.invariant
     ∙ ap (holder a) c.self.view_is

@@ -18,7 +18,7 @@ returns-in-Some-clause-dispatches c b =
     let l = rest_of (list_at (lists t) 128) in
     let f = first_is (list_at (lists t) 128) p c.in-Some.ensures.first in
     let at = first_placed t 128 (p, f.0) l (omega arith) f.1 in
-    rw (c.dequeue.ensures.lists, c.set_current.ensures.procs, c.pid_at-next.ensures.process, rest_is_without t 128 (p, f.0) l (omega arith) f.1)
+    rw (c.dequeue.ensures.lists, c.set_current.ensures.procs, c.at-next.ensures.number, rest_is_without t 128 (p, f.0) l (omega arith) f.1)
     (taken_quietly (lists t) (record s { current = p; quantum = 2 }) b p (model.in_state Current (process_in s.processes p)) (disjoint t p 128 129 at.0 (λ e. omega arith))
     ∙ ap (λ l. model.dispatch_first l (tables_of (lists t) s b)) (sym f.1))
 
@@ -29,7 +29,7 @@ returns-in-Some-clause-fits c =
     let p = c.in-Some.first in
     let l = rest_of (list_at (lists t) 128) in
     let f = first_is (list_at (lists t) 128) p c.in-Some.ensures.first in
-    rw (c.dequeue.ensures.lists, c.set_current.ensures.procs, c.pid_at-next.ensures.process, rest_is_without t 128 (p, f.0) l (omega arith) f.1)
+    rw (c.dequeue.ensures.lists, c.set_current.ensures.procs, c.at-next.ensures.number, rest_is_without t 128 (p, f.0) l (omega arith) f.1)
     (fits_taken (lists t) s.processes p (model.in_state Current (process_in s.processes p)) c.requires.fits (search rules) (λ e. (cc)))
 
 pub returns-in-None-clause-dispatches : goal.returns-in-None-clause-dispatches

@@ -6,6 +6,6 @@ use Rattle.reference_tables.proofs.tables.Tables.process_from.Goals as goal
 pub loop-number-preserved : goal.loop-number-preserved
 loop-number-preserved c =
     let test : ℕ → Bool = λ (p : ℕ). model.is_free (model.state_at c.args.self.now p) in
-    let f : test c.loop-number.number ≡ false = ap test (sym c.pid_at-p.ensures.process) ∙ sym c.is_free.ensures.free
+    let f : test c.loop-number.number ≡ false = ap test (sym c.at-p.ensures.number) ∙ sym c.is_free.ensures.free
     ∙ c.if-is_free.false in
     sym (find_later test c.loop-number.number c.args.end (omega arith) f) ∙ c.loop-number.invariant

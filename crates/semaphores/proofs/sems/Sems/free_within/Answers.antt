@@ -7,5 +7,5 @@ pub loop-number-preserved : goal.loop-number-preserved
 loop-number-preserved c =
     let test = is_free_in c.args.self.now.entries in
     let f : test c.loop-number.number ≡ false
-    = ap test (sym c.sem_at-sem.ensures.semaphore) ∙ sym c.is_free.ensures.free ∙ c.if-is_free.false in
+    = ap test (sym c.at-sem.ensures.number) ∙ sym c.is_free.ensures.free ∙ c.if-is_free.false in
     sym (find_later test c.loop-number.number c.args.end (omega arith) f) ∙ c.loop-number.invariant

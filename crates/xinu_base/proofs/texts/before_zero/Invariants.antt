@@ -1,7 +1,7 @@
 -- No byte so far is zero.
 use Rattle.std.proofs.Common.{◌≡◌, ◌++◌, take, drop}
-use Rattle.xinu_model.specs.Process.Creation.{before_zero}
-use Rattle.process_core.proofs.procs.before_first_zero.Given as goal
+use Rattle.xinu_base.specs.Texts.{before_zero}
+use Rattle.xinu_base.proofs.texts.before_zero.Given as goal
 
 abbrev pub invariant-loop-b : goal.invariant-loop-b
 invariant-loop-b l =

@@ -1,8 +1,0 @@
--- No byte so far is zero.
-use Rattle.std.proofs.Common.{◌≡◌, ◌++◌, take, drop}
-use Rattle.xinu_model.specs.Process.Creation.{before_zero}
-use Rattle.transcript.proofs.lines.before_zero.Given as goal
-
-abbrev pub invariant-loop-b : goal.invariant-loop-b
-invariant-loop-b l =
-    (l.end ≡ l.b-index) × (before_zero l.bytes ≡ take l.b-index l.bytes ++ before_zero (drop l.b-index l.bytes))
