@@ -26,6 +26,7 @@ use kernel_state::{Creation, KernelState, answer_released, half, signed};
 use xinu_base::{Call, Next, Rest, SYSERR, State, each_call};
 
 /// Begins a call on processes or ports.
+#[tactic(auto, unfolding(xinu_model::specs::Calls::calls))]
 pub fn begin(k: &mut KernelState, call: Call) -> Next
     requires core { (is_of family.Processes call.number || is_of family.Ports call.number) ≡ true }
     requires calling { IsCalling k.old.call }
