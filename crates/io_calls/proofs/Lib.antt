@@ -1,5 +1,4 @@
 pub mod BlockBytes
-pub mod CallRows
 pub mod ConsoleReads
 pub mod ConsoleSignals
 pub mod ConsoleTokens

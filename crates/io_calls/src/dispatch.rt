@@ -22,6 +22,7 @@ use kernel_state::{Begun, KernelState};
 use xinu_base::{Call, Next, Rest, SYSERR, each_call};
 
 /// Begins a call on devices or names.
+#[tactic(auto, unfolding(xinu_model::specs::Calls::calls))]
 pub fn begin(k: &mut KernelState, call: Call) -> Begun
     requires io { is_of Devices call.number ≡ true }
     requires calling { IsCalling k.old.call }
