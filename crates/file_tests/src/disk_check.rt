@@ -10,6 +10,12 @@ use lfs_check::{CheckFault, check};
 use std::alloc::Global;
 use std::process::Abort;
 
+/// A run of words: the place of the first, how many there are, how many bytes apart, the first of them, and by how much they go up.
+pub type Run = (usize, usize, usize, u32, u32);
+
+/// The words of an image that aren't zero: single ones, and runs.
+pub type Words = (&'static [(usize, u32)], &'static [Run]);
+
 /// Writes of two words.
 pub type Writes = ((usize, u32), (usize, u32));
 
@@ -36,6 +42,10 @@ const SIZES: [(usize, u32, u8, u32); 12] = [
     (33_558_016, 2, 0, 0),
 ];
 
+const VERSION_1: Words = (&version_1::WORDS, &version_1::RUNS);
+
+const VERSION_2: Words = (&version_2::WORDS, &version_2::RUNS);
+
 // Writes a word, if it is in the image.
 fn put(image: &mut Vec<u8>, at: usize, word: u32) {
     if at < image.len() && image.len() - at >= 4 {
@@ -59,12 +69,25 @@ pub(crate) fn image_of(
 
 /// An image of 70 blocks of version 2 with files of 8193, 600 and 0 bytes, and then two writes of words.
 pub(crate) fn with_writes(rt: &impl Abort, alloc: Global, writes: &Writes) -> Vec<u8> {
-    written(rt, alloc, &version_2::WORDS, writes)
+    written(rt, alloc, VERSION_2, writes)
+}
+
+// Writes a run of words.
+fn put_run(image: &mut Vec<u8>, (at, count, apart, first, more): &Run) {
+    let (mut place, mut word) = (*at, *first);
+    for _ in 0..*count {
+        put(image, place, word);
+        place = place.wrapping_add(*apart);
+        word = word.wrapping_add(*more);
+    }
 }
 
 // An image of 70 blocks with these words, and then two writes.
-fn written(rt: &impl Abort, alloc: Global, words: &[(usize, u32)], writes: &Writes) -> Vec<u8> {
-    let mut image = image_of(rt, alloc, 70, words);
+fn written(rt: &impl Abort, alloc: Global, words: Words, writes: &Writes) -> Vec<u8> {
+    let mut image = image_of(rt, alloc, 70, words.0);
+    for run in words.1 {
+        put_run(&mut image, run);
+    }
     put(&mut image, writes.0.0, writes.0.1);
     put(&mut image, writes.1.0, writes.1.1);
     image
@@ -89,7 +112,7 @@ pub(crate) fn counts(alloc: Global, image: &[u8]) -> Option<(u32, u32, u32)> {
 fn are_harmless(
     rt: &impl Abort,
     alloc: Global,
-    words: &[(usize, u32)],
+    words: Words,
     writes: &[Writes],
     wanted: (u32, u32, u32),
 ) {
@@ -100,7 +123,7 @@ fn are_harmless(
 }
 
 // Each of the damages of an image with these words is named.
-fn are_named(rt: &impl Abort, alloc: Global, words: &[(usize, u32)], damages: &[Damage]) {
+fn are_named(rt: &impl Abort, alloc: Global, words: Words, damages: &[Damage]) {
     for (first, second, rule, block) in damages {
         let image = written(rt, alloc, words, &(*first, *second));
         let found = named(rt, alloc, image.as_slice());
@@ -110,7 +133,7 @@ fn are_named(rt: &impl Abort, alloc: Global, words: &[(usize, u32)], damages: &[
 
 #[test]
 fn images_of_version_1(rt: HostRuntime) {
-    let words = &version_1::WORDS;
+    let words = VERSION_1;
     are_harmless(
         &rt,
         rt.alloc(),
@@ -123,7 +146,7 @@ fn images_of_version_1(rt: HostRuntime) {
 
 #[test]
 fn images_of_version_2(rt: HostRuntime) {
-    let words = &version_2::WORDS;
+    let words = VERSION_2;
     are_harmless(
         &rt,
         rt.alloc(),

@@ -3,7 +3,7 @@ use Rattle.std.proofs.Common.{◌≡◌, ℕ, Bool, true, List, Option, Some, No
 use Rattle.std.specs.List.{find}
 use Rattle.std.specs.Option.{is_some}
 use Rattle.std.specs.Prelude.{not, IfSome}
-use Rattle.process_core.proofs.Searches.{find_passes}
+use Rattle.xinu_model.proofs.Searches.{find_passes}
 use Rattle.xinu_model.specs.Ports.Queues.{MessagePort, PortQueue, is_used, port_at}
 use Rattle.xinu_model.specs.Searches.{numbers_from}
 

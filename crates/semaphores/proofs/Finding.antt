@@ -10,7 +10,7 @@ use Rattle.xinu_model.specs.Searches.{going_round, numbers_from, search}
 use Rattle.xinu_model.specs.Semaphores.Counts.{free_semaphore, make_semaphore}
 use Rattle.xinu_model.specs.Tables.{Tables, semaphore_at}
 use Rattle.process_core.specs.Tables.{ProcessTable, tables_of}
-use Rattle.process_core.proofs.Searches.{find_none, find_passes}
+use Rattle.xinu_model.proofs.Searches.{find_none, find_passes}
 use Rattle.semaphores.specs.declared.sems.SemaphoreEntry.{SemaphoreEntry}
 use Rattle.semaphores.specs.Counts.{SemaphoreTable, beside, entry_at, number_for, paired, second_number, tokens_of, two_numbers}
 use Rattle.semaphores.proofs.Counting.{owner_at}

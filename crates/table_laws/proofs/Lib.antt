@@ -1,5 +1,6 @@
 pub mod Buffers
 pub mod Frame
 pub mod Lists
+pub mod Places
 pub mod Preserve
 pub mod Tables

@@ -1,6 +1,6 @@
 //! Footprints: which parts of the state each call may change.
 
-ghost use Rattle.std.specs.Prelude.{◌≡◌, ℕ, true, false, List, Some, map};
+ghost use Rattle.std.specs.Prelude.{◌≡◌, ℕ, true, false, List, Some, is_some};
 ghost use Rattle.xinu_base.specs.declared.lines.TranscriptLine.{TranscriptLine};
 ghost use Rattle.xinu_base.specs.declared.processes.Rest.{Rest};
 ghost use Rattle.xinu_model.specs.Calls.{calls, called, continued};
@@ -11,12 +11,12 @@ ghost use Rattle.table_laws.specs.Preserve.{AreAlive};
 ghost use Rattle.xinu_model.specs.Rows.{CallRow, found_in};
 ghost use Rattle.xinu_model.specs.Sound.Tables.{IsInside};
 ghost use Rattle.xinu_model.specs.Sound.State.{IsSound};
-ghost use Rattle.xinu_base.specs.Syscalls.{Syscall, syscalls};
+ghost use Rattle.xinu_base.specs.Syscalls.{is_call};
 ghost use Rattle.xinu_laws.specs.Touches.{Reach, reach, touched_by, stacks_of, KeepsParts, Touches};
 
-/// The rows have the numbers of the system calls, in their order.
+/// A number has a row if and only if it has a call.
 pub fn rows_are_syscalls()
-    ensures { map (λ (r : CallRow). r.number) calls ≡ map (λ (c : Syscall). c.number) syscalls }
+    ensures { (number : ℕ) → is_some (found_in calls number) ≡ is_call number }
 {}
 
 /// Each call touches no more than its footprint.

@@ -1,7 +1,7 @@
 -- Rows are found by number: what holds of all rows of a list holds of the one that is found.
-use Rattle.std.proofs.Common.{◌≡◌, ℕ, ◌==◌, ◌||◌, Bool, true, false, cond, List, [], ◌∷◌, filter, map, Some, None, is_some, refl, sym, ap, subst, ◌∙◌}
-use Rattle.std.specs.List.{AllByRecursion, list_all, list_any}
-use Rattle.std.proofs.lemmas.Bool.{cond_both, and_parts, or_parts, eqb-true}
+use Rattle.std.proofs.Common.{◌≡◌, ℕ, ◌==◌, Bool, true, false, cond, List, [], ◌∷◌, filter, Option, Some, None, is_some, refl, sym, ap, subst, ◌∙◌}
+use Rattle.std.specs.List.{AllByRecursion, list_all}
+use Rattle.std.proofs.lemmas.Bool.{cond_both, and_parts, eqb-true}
 use Rattle.xinu_model.specs.Calls.{calls}
 use Rattle.xinu_base.specs.Syscalls.{Syscall, is_call, syscall_in, syscalls}
 use Rattle.xinu_model.specs.Rows.{CallRow, found_in}
@@ -51,28 +51,42 @@ of_few P test (row ∷ rows) all number r =
     (λ _ e h. let f = same_row row r e in subst P f (first_of P test row (filter test rows) (test row) (ap test f ∙ h) all))
     (λ _. of_few P test rows (others_of P row (filter test rows) (test row) all) number r)
 
--- The rows have the numbers of the system calls.
-pub rows_are_syscalls : map (λ (r : CallRow). r.number) calls ≡ map (λ (c : Syscall). c.number) syscalls
+-- A number that has a row has a call.
+has_call : (number : ℕ) (r : CallRow) → found_in calls number ≡ Some r → is_call number ≡ true
 unfolding calls
-rows_are_syscalls = refl
+has_call number r e =
+    subst (λ n. is_call n ≡ true) (number_of_row calls number r e)
+    (of_row (λ (x : CallRow). is_call x.number ≡ true) calls (all_rows (λ (x : CallRow). is_call x.number) calls refl) number r e)
 
--- a number that no row has finds none
-none_found : (rows : List CallRow) (number : ℕ) → list_any (λ n. number == n) (map (λ (r : CallRow). r.number) rows) ≡ false
-    → found_in rows number ≡ None
-none_found [] number e = refl
-none_found (row ∷ rows) number e =
-    let both = or_parts (number == row.number) (list_any (λ n. number == n) (map (λ (r : CallRow). r.number) rows)) e in
-    ap (λ b. cond b (Some row) (found_in rows number)) both.0 ∙ none_found rows number both.1
+-- the system calls one by one
+all_listed : (test : Syscall → Bool) (rows : List Syscall) → list_all test rows ≡ true → AllByRecursion (λ c. test c ≡ true) rows
+all_listed test [] h = tt
+all_listed test (c ∷ rows) h = let e = and_parts (test c) (list_all test rows) h in (e.0, all_listed test rows e.1)
 
--- a number that finds no system call is that of none
-none_listed : (rows : List Syscall) (number : ℕ) → is_some (syscall_in rows number) ≡ false
-    → list_any (λ n. number == n) (map (λ (c : Syscall). c.number) rows) ≡ false
-none_listed [] number = λ e. refl
-none_listed (row ∷ rows) number =
-    cond_both (number == row.number) (Some row) (syscall_in rows number)
-    (λ x. is_some x ≡ false → ((number == row.number) || list_any (λ n. number == n) (map (λ (c : Syscall). c.number) rows)) ≡ false)
-    (λ _ e. absurd (cc)) (λ b e. ap (λ x. x || list_any (λ n. number == n) (map (λ (c : Syscall). c.number) rows)) b ∙ none_listed rows number e)
+of_listed : (rows : List Syscall) → AllByRecursion (λ (c : Syscall). is_some (found_in calls c.number) ≡ true) rows → (number : ℕ)
+    → is_some (syscall_in rows number) ≡ true → is_some (found_in calls number) ≡ true
+of_listed [] all number = λ e. absurd (cc)
+of_listed (c ∷ rows) all number =
+    cond_both (number == c.number) (Some c) (syscall_in rows number) (λ x. is_some x ≡ true → is_some (found_in calls number) ≡ true)
+    (λ b e. ap (λ n. is_some (found_in calls n)) (eqb-true number c.number b) ∙ all.0) (λ _ e. of_listed rows all.1 number e)
+
+-- A number that has a call has a row.
+has_row : (number : ℕ) → is_call number ≡ true → is_some (found_in calls number) ≡ true
+unfolding calls
+has_row number = of_listed syscalls (all_listed (λ (c : Syscall). is_some (found_in calls c.number)) syscalls refl) number
 
 -- A number that has no call has no row.
 pub no_row : (number : ℕ) → is_call number ≡ false → found_in calls number ≡ None
-no_row number e = none_found calls number (ap (λ l. list_any (λ n. number == n) l) rows_are_syscalls ∙ none_listed syscalls number e)
+no_row number none = by_found (found_in calls number) refl
+  where
+    by_found : (found : Option CallRow) → found_in calls number ≡ found → found ≡ None
+    by_found None e = refl
+    by_found (Some r) e = let some = has_call number r e in absurd (cc)
+
+-- A number has a row if and only if it has a call.
+pub rows_are_syscalls : (number : ℕ) → is_some (found_in calls number) ≡ is_call number
+rows_are_syscalls number = by_call (is_call number) refl
+  where
+    by_call : (b : Bool) → is_call number ≡ b → is_some (found_in calls number) ≡ b
+    by_call true e = has_row number e
+    by_call false e = ap is_some (no_row number e)

@@ -2,7 +2,7 @@ use Rattle.std.proofs.Common.{◌∙◌, ◌+◌, ◌-◌, ◌/◌, sym, ap, ari
 use Rattle.std.specs.Prelude.{nat_lt}
 use Rattle.std.proofs.lemmas.Bool.{ne_eqb}
 use Rattle.xinu_model.specs.Pools.Buffers.{addresses, is_in}
-use Rattle.reference_ports.proofs.Places.{below_is_out, part_of_step, whole_steps}
+use Rattle.table_laws.proofs.Places.{below_is_out, part_of_step, whole_steps}
 use Rattle.reference_ports.proofs.buffers.is_address.Goals as goal
 
 pub returns-then-at-first : goal.returns-then-at-first

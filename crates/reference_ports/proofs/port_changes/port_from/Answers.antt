@@ -1,6 +1,6 @@
 use Rattle.std.proofs.Common.{◌≡◌, ◌∙◌, ℕ, Bool, false, not, sym, arith}
 use Rattle.xinu_model.specs.Ports.Queues.{is_used, port_at}
-use Rattle.reference_tables.proofs.Rounds.{find_later}
+use Rattle.xinu_model.proofs.Searches.{find_later}
 use Rattle.reference_ports.proofs.port_changes.port_from.Goals as goal
 
 pub loop-number-preserved : goal.loop-number-preserved

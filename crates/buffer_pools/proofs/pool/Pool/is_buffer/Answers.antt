@@ -1,7 +1,7 @@
 use Rattle.std.proofs.Common.{◌+◌, sym, ap, ◌∙◌, arith}
 use Rattle.std.proofs.lemmas.Bool.{ne_eqb}
 use Rattle.xinu_model.specs.Pools.Buffers.{buffers, is_in}
-use Rattle.buffer_pools.proofs.Places.{below_is_out, part_of_step, whole_steps}
+use Rattle.table_laws.proofs.Places.{below_is_out, part_of_step, whole_steps}
 use Rattle.buffer_pools.proofs.pool.Pool.is_buffer.Goals as goal
 
 pub returns-then-a-first : goal.returns-then-a-first

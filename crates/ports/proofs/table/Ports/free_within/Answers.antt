@@ -1,5 +1,5 @@
 use Rattle.std.proofs.Common.{◌≡◌, ◌∙◌, false, sym, ap, arith}
-use Rattle.process_core.proofs.Searches.{find_later}
+use Rattle.xinu_model.proofs.Searches.{find_later}
 use Rattle.ports.proofs.Finding.{is_free_in}
 use Rattle.ports.proofs.table.Ports.free_within.Goals as goal
 

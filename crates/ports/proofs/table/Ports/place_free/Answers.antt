@@ -1,7 +1,7 @@
 use Rattle.std.proofs.Common.{◌∙◌, ◌-◌, Some, ap, arith}
 use Rattle.std.specs.List.{find}
 use Rattle.xinu_model.specs.Searches.{numbers_from}
-use Rattle.process_core.proofs.Searches.{search_ahead, search_round}
+use Rattle.xinu_model.proofs.Searches.{search_ahead, search_round}
 use Rattle.ports.proofs.Finding.{found_free, is_free_in}
 use Rattle.ports.proofs.table.Ports.place_free.Goals as goal
 

@@ -1,5 +1,6 @@
 use Rattle.std.proofs.Common.{◌≡◌, ◌∙◌, false, sym, ap, arith}
-use Rattle.process_core.proofs.Searches.{find_later, is_free_in}
+use Rattle.process_core.proofs.Searches.{is_free_in}
+use Rattle.xinu_model.proofs.Searches.{find_later}
 use Rattle.process_core.proofs.procs.Procs.free_within.Goals as goal
 
 pub loop-number-preserved : goal.loop-number-preserved

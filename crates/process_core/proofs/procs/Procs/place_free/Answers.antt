@@ -2,7 +2,8 @@ use Rattle.std.proofs.Common.{◌≡◌, ◌+◌, ◌-◌, ◌≤◌, ℕ, None,
 use Rattle.std.specs.List.{find}
 use Rattle.xinu_model.specs.Searches.{numbers_from}
 use Rattle.process_core.specs.Tables.{tables_of}
-use Rattle.process_core.proofs.Searches.{found_free, is_free_in, none_free, search_ahead, search_round}
+use Rattle.process_core.proofs.Searches.{found_free, is_free_in, none_free}
+use Rattle.xinu_model.proofs.Searches.{search_ahead, search_round}
 use Rattle.process_core.proofs.procs.Procs.place_free.Goals as goal
 
 pub returns-in-Some-clause-found : goal.returns-in-Some-clause-found

@@ -2,7 +2,7 @@ use Rattle.std.proofs.Common.{◌≡◌, ◌+◌, ◌-◌, ◌≤◌, ℕ, Bool,
 use Rattle.std.specs.List.{find}
 use Rattle.xinu_model.specs.Searches.{numbers_from}
 use Rattle.xinu_model.specs.Tables as model
-use Rattle.reference_tables.proofs.Rounds.{search_ahead, search_round}
+use Rattle.xinu_model.proofs.Searches.{search_ahead, search_round}
 use Rattle.reference_tables.proofs.tables.Tables.free_process.Goals as goal
 
 pub returns-in-Some : goal.returns-in-Some

@@ -3,7 +3,7 @@ use Rattle.std.specs.Prelude.{not, is_some}
 use Rattle.std.specs.List.{find}
 use Rattle.xinu_model.specs.Searches.{numbers_from}
 use Rattle.xinu_model.specs.Tables as model
-use Rattle.reference_tables.proofs.Rounds.{search_ahead, search_round}
+use Rattle.xinu_model.proofs.Searches.{search_ahead, search_round}
 use Rattle.reference_tables.proofs.tables.Tables.free_semaphore.Goals as goal
 
 pub returns-in-Some : goal.returns-in-Some

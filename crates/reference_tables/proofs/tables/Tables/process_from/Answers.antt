@@ -1,6 +1,6 @@
 use Rattle.std.proofs.Common.{◌≡◌, ◌∙◌, ℕ, Bool, false, sym, ap, arith}
 use Rattle.xinu_model.specs.Tables as model
-use Rattle.reference_tables.proofs.Rounds.{find_later}
+use Rattle.xinu_model.proofs.Searches.{find_later}
 use Rattle.reference_tables.proofs.tables.Tables.process_from.Goals as goal
 
 pub loop-number-preserved : goal.loop-number-preserved

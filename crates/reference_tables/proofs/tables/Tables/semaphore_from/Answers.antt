@@ -1,7 +1,7 @@
 use Rattle.std.proofs.Common.{◌≡◌, ◌∙◌, ℕ, Bool, false, sym, ap, arith}
 use Rattle.std.specs.Prelude.{not, is_some}
 use Rattle.xinu_model.specs.Tables as model
-use Rattle.reference_tables.proofs.Rounds.{find_later}
+use Rattle.xinu_model.proofs.Searches.{find_later}
 use Rattle.reference_tables.proofs.tables.Tables.semaphore_from.Goals as goal
 
 pub loop-number-preserved : goal.loop-number-preserved

@@ -1,7 +1,7 @@
 use Rattle.std.proofs.Common.{◌≡◌, ◌∙◌, ◌+◌, ◌-◌, ◌≤◌, ℕ, None, Some, Option, rules}
 use Rattle.std.specs.List.{find}
 use Rattle.xinu_model.specs.Searches.{numbers_from}
-use Rattle.process_core.proofs.Searches.{search_ahead, search_round}
+use Rattle.xinu_model.proofs.Searches.{search_ahead, search_round}
 use Rattle.semaphores.proofs.Finding.{found_free, is_free_in, none_free, search_is}
 use Rattle.semaphores.proofs.sems.Sems.place_free.Goals as goal
 
