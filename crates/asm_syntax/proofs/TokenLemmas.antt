@@ -16,7 +16,7 @@ apart [] = true
 apart (Word w ∷ ts) = false
 apart (t ∷ ts) = true
 
-apart-joined : (b : ℕ) (ts : List Token) → apart ts ≡ true → joined b ts ≡ Word (b ∷ []) ∷ ts
+pub apart-joined : (b : ℕ) (ts : List Token) → apart ts ≡ true → joined b ts ≡ Word (b ∷ []) ∷ ts
 apart-joined b [] is = refl
 apart-joined b (Blank ∷ ts) is = refl
 apart-joined b (Colon ∷ ts) is = refl

@@ -10,23 +10,23 @@ use Rattle.std.proofs.Math.Nat.{pow-le-pow_right}
 use Rattle.command_line.specs.DiskArgs.{is_block_count}
 use Rattle.command_line.specs.SoakArgs.{is_seed}
 
-digit_range : (c : ℕ) → is_ascii_digit c ≡ true → (48 ≤ c) × (c ≤ 57)
+pub digit_range : (c : ℕ) → is_ascii_digit c ≡ true → (48 ≤ c) × (c ≤ 57)
 digit_range c e = let two = and_parts _ _ e in (leb-true 48 c two.0, leb-true c 57 two.1)
 
-digit_below : (c : ℕ) → 48 ≤ c → c ≤ 57 → digit_value c < 10
+pub digit_below : (c : ℕ) → 48 ≤ c → c ≤ 57 → digit_value c < 10
 digit_below c low high =
     let above : nat_lt c 48 ≡ false = grind (arith, nat_tests) in
     let below : nat_lt c 58 ≡ true = grind (arith, nat_tests) in
     rw (above, below) (omega arith)
 
-all_digits : (ds : List ℕ) → list_all is_ascii_digit ds ≡ true → AllDigits 10 ds
+pub all_digits : (ds : List ℕ) → list_all is_ascii_digit ds ≡ true → AllDigits 10 ds
 all_digits [] e = tt
 all_digits (c ∷ cs) e =
     let two = and_parts (is_ascii_digit c) (list_all is_ascii_digit cs) e in
     let range = digit_range c two.0 in
     (digit_below c range.0 range.1, all_digits cs two.1)
 
-no_plus : (c : ℕ) (cs : List ℕ) → 48 ≤ c → without_leading_plus (c ∷ cs) ≡ c ∷ cs
+pub no_plus : (c : ℕ) (cs : List ℕ) → 48 ≤ c → without_leading_plus (c ∷ cs) ≡ c ∷ cs
 no_plus c cs low = let other : (c == 43) ≡ false = grind (arith, nat_tests) in rw other refl
 
 pub no_count : (ds : List ℕ) → list_all is_ascii_digit ds ≡ true → length ds ≤ 5

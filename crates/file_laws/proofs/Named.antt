@@ -122,7 +122,7 @@ among-absent before n (f ∷ files) e h =
     ap (λ v. cond v (Some f) (file_by n files)) other ∙ among-absent (before ++ f.name ∷ []) n files parts.1 more
 
 -- bytes are the same as themselves
-bytes-self : (xs : List ℕ) → bytes_eq xs xs ≡ true
+pub bytes-self : (xs : List ℕ) → bytes_eq xs xs ≡ true
 bytes-self xs = (bytes_eq-Decides xs xs).1 refl
 
 -- files whose names are right are apart

@@ -42,7 +42,7 @@ base_directory base c =
     }
 
 -- bytes that are all zeros
-zeros_are : (xs : List ℕ) → are_zeros xs ≡ true → xs ≡ replicate (length xs) 0
+pub zeros_are : (xs : List ℕ) → are_zeros xs ≡ true → xs ≡ replicate (length xs) 0
 zeros_are [] e = refl
 zeros_are (x ∷ xs) e =
     let p = and_parts (nat_eq x 0) (are_zeros xs) e in let t = p.0 in

@@ -44,7 +44,7 @@ rising_all a c (b ∷ blocks) w h =
     ∙ ap (λ l. b ∷ l) (rising_all a (b.0 + b.1) blocks (omega arith) h.2)
 
 -- what is found is at the address or above
-found_above : (a : ℕ) (blocks : List Block) (b : Block) → find (λ d. nat_le a d.0) blocks ≡ Some b → a ≤ b.0
+pub found_above : (a : ℕ) (blocks : List Block) (b : Block) → find (λ d. nat_le a d.0) blocks ≡ Some b → a ≤ b.0
 found_above a [] b e = absurd (cc)
 found_above a (d ∷ blocks) b e =
     cond_both (nat_le a d.0) (Some d) (find (λ x. nat_le a x.0) blocks) (λ o. o ≡ Some b → a ≤ b.0)

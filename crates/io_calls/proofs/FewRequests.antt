@@ -7,14 +7,14 @@ use Rattle.std.proofs.lemmas.Bool.{cond_both, eqb-true}
 use Rattle.table_laws.proofs.Lists.Counts.{first_is_counted, get_or-le-total, numbers_without_same, numbers_without_other}
 use Rattle.table_laws.proofs.Tables.MoveTo.{by_number, within_table}
 use Rattle.table_laws.proofs.Tables.Unblock.{waiter_waits}
-use Rattle.xinu_base.specs.declared.processes.State.{State}
-use Rattle.xinu_base.specs.declared.processes.State.TheVariants.{Free, Current, Ready, Receiving, Sleeping, Suspended, Waiting, Timed}
+use Rattle.xinu_base.specs.declared.processes.State.TheVariants.{Current, Ready}
 use Rattle.xinu_model.specs.Files.Work.{FileRequest, FileWork}
 use Rattle.xinu_model.specs.RawDisk.Callers.{callers, HaveCallers, living}
 use Rattle.xinu_model.specs.RawDisk.Requests.{RawDisk, Request}
 use Rattle.xinu_model.specs.Sound.Disks.{IsFileDisk, IsRawDisk}
 use Rattle.xinu_model.specs.Sound.Tables.{count_in, IsInside, IsSoundTables, times, waiting_places}
 use Rattle.xinu_model.specs.Tables.{no_semaphore, numbers_without, Semaphore, semaphore_at, state_at, Tables}
+use Rattle.table_laws.proofs.Tables.Signals.{at_most_one}
 
 -- one element more passes a test or is one of the others
 one_more : {A : Type 0} (b : Bool) (x : A) (others : List A) (passed all : ℕ) → all ≡ passed + length others
@@ -93,22 +93,12 @@ waits_there t p sem o =
     let one = get_or-le-total (λ (x : Semaphore). count_in p x.waiters) t.semaphores sem no_semaphore refl in
     omega (arith, all, one)
 
-places : (s : State) → waiting_places s ≤ 1
-places Free = omega arith
-places Current = omega arith
-places Ready = omega arith
-places Receiving = omega arith
-places Sleeping = omega arith
-places Suspended = omega arith
-places Waiting = omega arith
-places Timed = omega arith
-
 -- On no semaphore wait more than 62 processes while one calls.
 few_wait : (t : Tables) (sem : ℕ) → IsSoundTables t → t.current ≢ 0 → length (semaphore_at t sem).waiters < 63
 few_wait t sem k not_null =
     let o = k.inside in
     let ws = (semaphore_at t sem).waiters in
-    let once : (p : ℕ) → count_in p ws ≤ 1 = λ p. (let a = waits_there t p sem o in let b = places (state_at t p) in omega (arith, a, b)) in
+    let once : (p : ℕ) → count_in p ws ≤ 1 = λ p. (let a = waits_there t p sem o in let b = at_most_one (state_at t p) in omega (arith, a, b)) in
     let below : (p : ℕ) → 0 < count_in p ws → p < 64
     = λ p some. within_table t p o.processes (λ f. let g = sym (waiter_waits t sem p o some) ∙ f in cc) in
     let none_current : count_in t.current ws ≡ 0

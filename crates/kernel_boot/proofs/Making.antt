@@ -8,18 +8,13 @@ use Rattle.xinu_model.specs.Machine.{Xinu}
 use Rattle.xinu_model.specs.Process.Creation.{stack_size}
 use Rattle.xinu_model.specs.Tables.{no_process, Nowhere, state_at}
 use Rattle.table_laws.proofs.Tables.MoveTo.{state_move_other}
-use Rattle.table_laws.proofs.Tables.Starts.{all_are_made, boots_from, none_made, same_everywhere}
-
--- if it is made a stack was found
-made_on : (found : Option Stack) (i : ℕ) (image : Loaded) (s y : Xinu) → where_stack found i image s ≡ Boots y → (stack : Stack) × (with_image i image stack s ≡ y)
-made_on None i image s y e = absurd (cc)
-made_on (Some stack) i image s y e = (stack, cc)
+use Rattle.table_laws.proofs.Tables.Starts.{all_are_made, boots_from, none_made, same_everywhere, made_on_stack}
 
 -- the other numbers stay free
 pub free_next : (k : ℕ) (image : Loaded) (s y : Xinu) (found : Option Stack) → where_stack found (k + 1) image s ≡ Boots y → ((j : ℕ) → k + 1 ≤ j → state_at s.tables j ≡ Free)
     → (j : ℕ) → k + 1 + 1 ≤ j → state_at y.tables j ≡ Free
 free_next k image s y found e free j le =
-    let on = made_on found (k + 1) image s y e in
+    let on = made_on_stack found (k + 1) image s y e in
     let F : Xinu → Type 0 = λ y. state_at y.tables j ≡ Free in
     subst F on.1 (state_move_other s.tables j (k + 1) (image_process (k + 1) image on.0.top) None Nowhere (λ f. omega (arith, f, le)) ∙ free j (omega (arith, le)))
 

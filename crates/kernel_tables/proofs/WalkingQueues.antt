@@ -8,12 +8,13 @@ use Rattle.queue_table.proofs.Laws.{disjoint, place-none}
 use Rattle.queue_table.specs.Lists.{after_in, Entry, first_process, is_listed, list_at, place}
 use Rattle.queue_table.specs.Table.{lists}
 use Rattle.queue_table.specs.declared.table.QueueTable.{QueueTable}
-use Rattle.xinu_model.specs.Sound.Tables.{count_in, entries_of, IsInside, sleeping_places, total, waiting_places}
+use Rattle.xinu_model.specs.Sound.Tables.{count_in, entries_of, IsInside, sleeping_places, total}
 use Rattle.xinu_base.specs.declared.processes.State.{State}
 use Rattle.xinu_base.specs.declared.processes.State.TheVariants.{Free, Current, Ready, Receiving, Sleeping, Suspended, Waiting, Timed}
 use Rattle.xinu_model.specs.Tables.{no_semaphore, Semaphore, semaphore_at, state_at, Tables}
 use Rattle.kernel_tables.specs.Walks.{entries_from, numbers_from}
 use Rattle.kernel_tables.proofs.Walking.{after_counted, from_first, from_next, Once}
+use Rattle.table_laws.proofs.Tables.Signals.{at_most_one}
 
 -- a walk along the numbers of a list is one along the list
 pub numbers_walk : (o : Option ℕ) (l : List Entry) → numbers_from o (numbers l) ≡ numbers (entries_from o l)
@@ -64,17 +65,6 @@ one_of_sum f [] i none = omega arith
 one_of_sum f (x ∷ l) zero none = omega arith
 one_of_sum f (x ∷ l) (suc i) none = let h = one_of_sum f l i none in omega arith
 
--- who waits has at most one place
-waiting_least : (s : State) → waiting_places s ≤ 1
-waiting_least Waiting = omega arith
-waiting_least Ready = omega arith
-waiting_least Free = omega arith
-waiting_least Current = omega arith
-waiting_least Receiving = omega arith
-waiting_least Sleeping = omega arith
-waiting_least Suspended = omega arith
-waiting_least Timed = omega arith
-
 -- and so has who sleeps
 pub sleeping_least : (s : State) → sleeping_places s ≤ 1
 sleeping_least Waiting = omega arith
@@ -92,7 +82,7 @@ waiters_once t sem l k e r =
     let a = ap (count_in r) e ∙ counted_numbers r l in
     let b = one_of_sum (λ x. count_in r x.waiters) t.semaphores sem refl in
     let c = k.waiting r in
-    let d = waiting_least (state_at t r) in omega arith
+    let d = at_most_one (state_at t r) in omega arith
 
 -- whoever is after another waits as well
 pub waiter_counted : (p : ℕ) (l : List Entry) → IfSome (after_in p l) (λ q. 0 < count_in q (numbers l))

@@ -88,7 +88,7 @@ pub set_names : (files : List File) (f : File) → names_right 27 [] (names_of f
 set_names files f e n = names_push [] (without_name f.name files) f (names_fewer f.name [] [] files (λ x q. q) e) n refl (among_not f.name files)
 
 -- a text with zeros after it is a name
-text_runs : (text : List ℕ) (m : ℕ) → list_all (λ b. not (nat_eq b 0)) text ≡ true → text_length (text ++ replicate m 0) ≡ length text
+pub text_runs : (text : List ℕ) (m : ℕ) → list_all (λ b. not (nat_eq b 0)) text ≡ true → text_length (text ++ replicate m 0) ≡ length text
 unfolding text_length
 text_runs [] zero e = refl
 text_runs [] (suc m) e = refl

@@ -51,7 +51,7 @@ length-with f (g ∷ files) =
     either-way (is_before f.name g.name) (λ v. length (cond v (f ∷ g ∷ files) (g ∷ with_file f files)) ≡ suc (suc (length files))) (λ _. refl) (λ _. omega (arith, i))
 
 -- as many files in order
-length-sorted : (files : List File) → length (sorted files) ≡ length files
+pub length-sorted : (files : List File) → length (sorted files) ≡ length files
 length-sorted [] = refl
 length-sorted (f ∷ files) = let i = length-sorted files in let w = length-with f (sorted files) in omega (arith, i, w)
 

@@ -1,33 +1,23 @@
 -- In an event the clock goes on by one tick at most, and the number of a port rises by one at most.
-use Rattle.std.proofs.Common.{◌≡◌, ◌∙◌, ℕ, ◌+◌, ◌≤◌, ◌||◌, Bool, true, false, List, [], ◌∷◌, refl, ap, subst, arith}
-use Rattle.std.proofs.lemmas.Bool.{cond_both}
+use Rattle.std.proofs.Common.{◌≡◌, ◌∙◌, ℕ, ◌+◌, ◌≤◌, ◌||◌, Bool, true, false, List, [], ◌∷◌, refl, subst, arith}
 use Rattle.host_port.specs.Outside.{Outside}
 use Rattle.host_port.specs.Printing.{Printing}
 use Rattle.machine.specs.FileEffects.{ChosenPrints}
 use Rattle.xinu_base.specs.declared.events.Event.{Event}
 use Rattle.xinu_base.specs.declared.events.Event.TheVariants.{Step, Tick, Key, Tx, Disk0, Disk1, Fail0, Fail1, Dump}
 use Rattle.xinu_laws.proofs.FileSyscalls.AtOnce.{step_holds}
-use Rattle.event_laws.proofs.Rises.ClockEvents.{resched_ticks, ticks_keyed, ticks_stepped, ticks_ticked, ticks_transmits}
-use Rattle.event_laws.proofs.Rises.PortEvents.{RisesOnce, keyed_once, stepped_once, ticked_once, transmits_once}
+use Rattle.event_laws.proofs.Rises.ClockEvents.{ticks_keyed, ticks_stepped, ticks_ticked, ticks_transmits, closed_ticks}
+use Rattle.event_laws.proofs.Rises.PortEvents.{RisesOnce, keyed_once, stepped_once, ticked_once, transmits_once, stays_once}
 use Rattle.xinu_model.specs.Events.{effect_of, next_file_call, step_at_once, with_executed}
 use Rattle.xinu_model.specs.Files.Syscalls.{at_once, completed_in, completing, files_of, file_step, with_step}
 use Rattle.xinu_model.specs.Files.Work.{calls_completed, FileRequest, least_effects}
 use Rattle.xinu_model.specs.Isa.Exec.{exec}
-use Rattle.xinu_model.specs.Machine.{CallResult, closed, current_hart, EventResult, is_off, start, Xinu}
-use Rattle.xinu_model.specs.Ports.Queues.{MessagePort, port_at}
-use Rattle.xinu_model.specs.Process.Scheduling.{resched}
+use Rattle.xinu_model.specs.Machine.{current_hart, EventResult, start, Xinu}
 use Rattle.xinu_model.specs.RawDisk.Calls.{disk_of}
 use Rattle.xinu_model.specs.RawDisk.Completions.{raw_completed}
 use Rattle.xinu_model.specs.Sound.State.{IsSound}
-use Rattle.xinu_model.specs.Tables.{Tables}
 use Rattle.machine.proofs.Completions.{completion_once, completion_ticks}
 use Rattle.machine.proofs.FilesDone.{told_ports, told_ticks}
-
--- the end of an event moves no clock
-closed_ticks : (result : CallResult) → (closed result).ticks ≡ result.call.state.tables.ticks
-closed_ticks result =
-    let t = result.call.state.tables in
-    cond_both (result.call.owes_resched || is_off result.answer) (resched t) t (λ (u : Tables). u.ticks ≡ t.ticks) (λ _. resched_ticks t) (λ _. refl)
 
 -- a step in which a call on files takes effect as it is made
 at_once_ticks : (a : FileRequest) (s : Xinu) → (step_at_once a s).state.tables.ticks ≡ s.tables.ticks
@@ -44,10 +34,6 @@ done_ports : (calls : List FileRequest) (choice : ℕ) (s : Xinu) → (completed
 done_ports [] choice s = refl
 done_ports (a ∷ calls) choice s =
     let x = calls_completed (least_effects (a ∷ calls) (files_of s) + choice) (file_step s) in told_ports x.notes (start (with_step x s))
-
--- no number rises if the ports stay
-stays_once : (s u : Xinu) → u.parts.ports ≡ s.parts.ports → RisesOnce s u
-stays_once s u e q = (let f = ap (λ (ports : List MessagePort). (port_at ports q).seq) e in omega (arith, f))
 
 event_ticks : (s : Xinu) (e : Event) (choice : ℕ) → IsSound s → (effect_of s e choice).state.tables.ticks ≤ s.tables.ticks + 1
 event_ticks s Step choice k =

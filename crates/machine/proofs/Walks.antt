@@ -2,7 +2,6 @@
 use Rattle.std.proofs.Common.{◌≡◌, ◌∙◌, ℕ, zero, suc, ◌+◌, ◌-◌, ◌<◌, ◌≤◌, Bool, true, false, cond, List, [], ◌∷◌, ◌++◌, append_assoc, append-nil, get_or, length, map, take, Option, Some, None, ℤ, refl, sym, ap, subst, arith}
 use Rattle.ports.specs.Table.{head_of}
 use Rattle.std.specs.Prelude.{find, is_some, not, nat_le, option_map, slice_index_or, IfSome}
-use Rattle.std.proofs.lemmas.Bool.{cond_both, leb-true}
 use Rattle.std.proofs.lemmas.List.{map-append, take_more}
 use Rattle.host_port.specs.Outside.{Outside}
 use Rattle.host_port.specs.Printing.{Printing, Prints}
@@ -16,6 +15,7 @@ use Rattle.xinu_model.specs.Ports.Queues.{MessagePort, PortQueue, no_port, port_
 use Rattle.xinu_model.specs.Tables.{message_at, no_process, no_semaphore, process_at, Semaphore, semaphore_at, Tables}
 use Rattle.xinu_model.specs.Text.{is_shown, pool_line, pool_lines, port_line, port_lines, process_line, process_lines, semaphore_line, semaphore_lines, shown}
 use Rattle.machine.proofs.ShownLines.{shown_both, shown_nothing}
+use Rattle.freelist_memory.proofs.Rest.{found_above}
 
 -- Of the lines of a list those before the rest were printed.
 pub record PrintedUpTo {A : Type 0} (line : A → TranscriptLine) (all rest : List A) (before after : Printing) (was is : Outside) : Type 0 where
@@ -47,14 +47,6 @@ printed_all line all rest a b h i e so_far =
 abbrev pub room_from : Option Block → ℕ
 room_from None = 0
 room_from (Some b) = suc (1048576 - b.0)
-
--- what is found is at the address or above
-pub found_above : (a : ℕ) (blocks : List Block) (b : Block) → find (λ d. nat_le a d.0) blocks ≡ Some b → a ≤ b.0
-found_above a [] b e = absurd (cc)
-found_above a (d ∷ blocks) b e =
-    cond_both (nat_le a d.0) (Some d) (find (λ x. nat_le a x.0) blocks) (λ o. o ≡ Some b → a ≤ b.0)
-    (λ t e. let P : Block → Type 0 = λ x. a ≤ x.0 in let same : d ≡ b = cc in subst P same (leb-true a d.0 t))
-    (λ t e. found_above a blocks b e) e
 
 -- the lines of one process more
 pub process_lines_more : (k n : ℕ) (ps : List Process) (ms : List (Option ℕ)) → n < length ps

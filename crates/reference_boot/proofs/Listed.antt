@@ -3,19 +3,20 @@ use Rattle.std.proofs.Common.{◌≡◌, ◌∙◌, ℕ, zero, suc, ◌+◌, ◌
 use Rattle.std.specs.List.{find, list_all, prefix_len}
 use Rattle.std.specs.Option.{option_map}
 use Rattle.std.proofs.lemmas.Bool.{and_from, and_parts, cond_both}
-use Rattle.std.proofs.lemmas.Bool.Decides.{nat_tests}
 use Rattle.std.proofs.lemmas.List.{length-append, length-map, take-append-drop, take_more}
 use Rattle.std.proofs.lemmas.List.Folds.{length-prefix_len}
 use Rattle.std.proofs.lemmas.Option.{get_or_from_slice_get, slice_get-map, slice_get_within}
 use Rattle.std.proofs.lemmas.Slice.Eq.{bytes_eq-Decides}
 use Rattle.lfs_check.proofs.KeepsAll.{either-way}
 use Rattle.lfs_check.specs.Rules.{are_zeros, is_name, text_length}
-use Rattle.lfs_layout.specs.Files.{File, bare_name, content_named, files_of, found, is_among, is_before, is_text, listing, names_of, names_right, padded_name, placed_files, sorted, with_file}
+use Rattle.lfs_layout.specs.Files.{File, bare_name, content_named, files_of, found, is_among, is_before, is_text, listing, names_of, names_right, padded_name, placed_files, with_file}
 use Rattle.lfs_layout.specs.Images.{IsCleanImage}
 use Rattle.lfs_layout.proofs.CleanOpens.{placed_names, placed_room}
 use Rattle.lfs_layout.proofs.Ordered.{sorted_at}
 use Rattle.file_laws.specs.StoredFiles.{stored, stored_files}
 use Rattle.file_laws.proofs.Named.{AreApartFiles, AreNames, IsName, clean_names, file_by, names_apart}
+use Rattle.file_laws.proofs.Right.{zeros_are}
+use Rattle.lfs_layout.proofs.ImageLaws.{length-sorted}
 
 -- ---- a file is found by its name
 
@@ -77,13 +78,6 @@ bare_is_text name is =
     and_from (nat_lt 0 (length (take n name)) && nat_le (length (take n name)) 27) (list_all test (take n name))
     (and_from (nat_lt 0 (length (take n name))) (nat_le (length (take n name)) 27) (ap (nat_lt 0) long ∙ counts.0) (ap (λ m. nat_le m 27) long ∙ counts.1))
     (all_first test name)
-
--- bytes that are all zeros
-zeros_are : (xs : List ℕ) → are_zeros xs ≡ true → xs ≡ replicate (length xs) 0
-zeros_are [] e = refl
-zeros_are (x ∷ xs) e =
-    let p = and_parts (nat_eq x 0) (are_zeros xs) e in
-    (let t = p.0 in let z : x ≡ 0 = grind (arith, nat_tests) in ap (λ k. k ∷ xs) z) ∙ ap (λ l. 0 ∷ l) (zeros_are xs p.1)
 
 -- a name of 28 bytes is its text with the zeros after it
 padded_bare : (name : List ℕ) → IsName name → padded_name (bare_name name) ≡ name
@@ -168,22 +162,18 @@ bytes_read items (Some w) v read bytes is m there = (let same : w ≡ v = cc in 
 -- ---- all files
 
 -- there are as many in their order
-count_with : (f : File) (files : List File) → length (with_file f files) ≡ length files + 1
+pub count_with : (f : File) (files : List File) → length (with_file f files) ≡ length files + 1
 count_with f [] = refl
 count_with f (g ∷ files) =
     let rest = count_with f files in
     cond_both (is_before f.name g.name) (f ∷ g ∷ files) (g ∷ with_file f files) (λ l. length l ≡ length (g ∷ files) + 1) (λ _. omega arith) (λ _. omega (arith, rest))
-
-count_sorted : (files : List File) → length (sorted files) ≡ length files
-count_sorted [] = refl
-count_sorted (f ∷ files) = (let one = count_with f (sorted files) in let rest = count_sorted files in omega (arith, one, rest))
 
 -- A clean image has at most 78 files.
 pub few_files : (disk : List ℕ) → IsCleanImage disk → length (stored_files disk) ≤ 78
 unfolding stored_files
 few_files disk clean =
     let few = (placed_room disk clean.faultless clean.version).few in
-    let all = count_sorted (placed_files disk) in
+    let all = length-sorted (placed_files disk) in
     let stored_too = length-map (files_of disk) stored in
     omega (arith, few, all, stored_too)
 

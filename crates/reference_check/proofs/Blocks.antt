@@ -3,7 +3,6 @@ use Rattle.std.proofs.Common.{◌≡◌, ◌∙◌, ℕ, zero, suc, ◌==◌, �
 use Rattle.std.proofs.lemmas.Bool.{cond_both, eqb-false}
 use Rattle.xinu_base.specs.declared.lines.FileMoment.{FileMoment}
 use Rattle.xinu_base.specs.declared.lines.FileMoment.TheVariants.{Finished, Next}
-use Rattle.xinu_base.specs.declared.processes.Rest.{Rest}
 use Rattle.xinu_base.specs.declared.processes.Rest.TheVariants as rest
 use Rattle.xinu_base.specs.declared.registers.Outcome.{Outcome}
 use Rattle.xinu_base.specs.declared.registers.Outcome.TheVariants as outcome
@@ -22,7 +21,7 @@ use Rattle.xinu_laws.proofs.Touches.Events.{touches_ticked}
 use Rattle.xinu_laws.proofs.Touches.Few.{IsLawOfFew, law_of_few}
 use Rattle.xinu_laws.proofs.Touches.Moves.{touches_sent}
 use Rattle.event_laws.specs.Ownership.GivingAway.{next}
-use Rattle.xinu_laws.specs.Touches.{at_a_tick, reach, touched_by, Touches}
+use Rattle.xinu_laws.specs.Touches.{at_a_tick, reach, Touches}
 use Rattle.xinu_model.specs.Calls.{calls, continued}
 use Rattle.xinu_model.specs.Clock.{ticked}
 use Rattle.xinu_model.specs.Console.Signals.{keyed, sent_in, transmits}
@@ -39,6 +38,7 @@ use Rattle.xinu_model.specs.Process.Death.{exit, killed}
 use Rattle.xinu_model.specs.Sound.State.{IsSound}
 use Rattle.xinu_model.specs.Tables.{is_free, process_at, state_at}
 use Rattle.xinu_model.specs.Words.{signed}
+use Rattle.xinu_laws.proofs.FileSyscalls.Chosen.{touched_files}
 
 -- from s to u the disk keeps its blocks
 abbrev pub KeepsBlocks : Xinu → Xinu → Type 0
@@ -101,21 +101,6 @@ blocks_law = record {
       tt;
 }
 
--- what is left of a call changes no files
-left_alone : (left : Rest) → (touched_by left).files ≡ false
-left_alone (rest.GetBuf i) = refl
-left_alone (rest.PtSend ticket message) = refl
-left_alone (rest.PtRecv ticket) = refl
-left_alone rest.TtyGet = refl
-left_alone (rest.TtyRead part) = refl
-left_alone (rest.TtyPut b returned) = refl
-left_alone (rest.TtyWrite part returned) = refl
-left_alone rest.Nothing = refl
-left_alone rest.Receive = refl
-left_alone rest.Timed = refl
-left_alone rest.SelfSuspend = refl
-left_alone (rest.Disk reply) = refl
-
 reacted_blocks : (o : Outcome) (s : Xinu) → IsSound s → KeepsBlocks s (reacted o s).state
 reacted_blocks outcome.Went s k = refl
 reacted_blocks outcome.Call s k = let call = call_of (current_hart s) in law_of_few blocks_law call.number call.args s k
@@ -133,7 +118,7 @@ stepped_blocks s k =
     (λ b. let c = may_call s k (eqb-false s.tables.current 0 b) in
     cond_both (is_done left) (instruction_step s) goes_on (λ (e : EventResult). KeepsBlocks s e.state)
     (λ _. let u = with_executed (next s) s in reacted_blocks (next s).outcome u (sound_where_called u (may_call_after s c)))
-    (λ _. same_files s (continued left s).call.state ((continued_touches left s k).parts.devices.files (left_alone left))))
+    (λ _. same_files s (continued left s).call.state ((continued_touches left s k).parts.devices.files (touched_files left))))
 
 -- and so do a tick, a received character and a transmission,
 pub ticked_blocks : (s : Xinu) → IsSound s → KeepsBlocks s (ticked s).state

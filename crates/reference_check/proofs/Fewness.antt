@@ -1,9 +1,9 @@
 -- A sound state holds no more than its lines can say.
 use Rattle.std.proofs.Common.{◌≡◌, ◌∙◌, ◌+◌, ◌<◌, ◌≤◌, ◌==◌, ◌++◌, ℕ, zero, suc, Bool, true, false, not, cond, List, [], ◌∷◌, length, length-append, Option, Some, None, refl, sym, ap, subst, arith, inl, inr}
-use Rattle.std.proofs.lemmas.Bool.{cases_eq, cases_lt, cond_both}
+use Rattle.std.proofs.lemmas.Bool.{cases_eq, cases_lt}
 use Rattle.std.proofs.lemmas.List.{get_or_past}
 use Rattle.std.specs.List.{AllByRecursion}
-use Rattle.std.specs.Prelude.{IfSome, IsSome, nat_lt}
+use Rattle.std.specs.Prelude.{IfSome, IsSome}
 use Rattle.reference_boot.specs.Few.{AreFew}
 use Rattle.reference_files.proofs.Small.{sound_is_small}
 use Rattle.reference_files.specs.Sizes.{IsSmall}
@@ -11,18 +11,18 @@ use Rattle.reference_check.specs.Bounds.{IsWithin}
 use Rattle.table_laws.proofs.Lists.Counts.{get_or-le-total, none_counted, numbers_without_other, numbers_without_same}
 use Rattle.table_laws.proofs.Tables.Unblock.{waiter_waits}
 use Rattle.xinu_base.specs.declared.processes.Process.{Process}
-use Rattle.xinu_base.specs.declared.processes.State.{State}
 use Rattle.xinu_base.specs.declared.processes.State.TheVariants.{Free, Waiting}
 use Rattle.xinu_model.specs.Files.Syscalls.{files_of}
-use Rattle.xinu_model.specs.Files.Work.{FileRequest, FileWork, least_effects, most_turns}
+use Rattle.xinu_model.specs.Files.Work.{FileRequest}
 use Rattle.xinu_model.specs.Machine.{Xinu}
 use Rattle.xinu_model.specs.Pools.Buffers.{BufferPool, no_pool, pool_at}
 use Rattle.xinu_model.specs.Ports.Queues.{MessagePort, PortQueue, nodes, port_at, queued}
 use Rattle.xinu_model.specs.RawDisk.Callers.{HaveCallers, callers, living}
 use Rattle.xinu_model.specs.RawDisk.Requests.{Request}
 use Rattle.xinu_model.specs.Sound.Pools.{ArePools}
-use Rattle.xinu_model.specs.Sound.Tables.{IsInside, count_in, waiting_places}
+use Rattle.xinu_model.specs.Sound.Tables.{IsInside, count_in}
 use Rattle.xinu_model.specs.Tables.{Tables, no_process, no_semaphore, numbers_without, process_at, semaphore_at, state_at}
+use Rattle.table_laws.proofs.Tables.Signals.{at_most_one}
 
 -- without a number a list is as much shorter as it is counted
 length_first : (b : Bool) (x : ℕ) (rest : List ℕ) (n m : ℕ) → length rest + n ≡ m → length (cond (not b) (x ∷ rest) rest) + cond b (suc n) n ≡ suc m
@@ -55,10 +55,6 @@ length_by_counts (suc n) l below once =
       | inr ne ↦ (let f = numbers_without_other p n l ne in let g = once p in omega (arith, f, g))
     ]
 
-places_at_most : (s : State) → waiting_places s ≤ 1
-places_at_most Waiting = omega arith
-places_at_most _ = omega arith
-
 -- who waits has a number
 waits_within : (t : Tables) (p : ℕ) → IsInside t → state_at t p ≡ Waiting → p < 64
 waits_within t p o waits = elim (cases_lt p 64) [
@@ -76,7 +72,7 @@ few_waiters t sem o =
     length_by_counts 64 (semaphore_at t sem).waiters (λ p h. waits_within t p o (waiter_waits t sem p o h))
     (λ p. let l = get_or-le-total (λ x. count_in p x.waiters) t.semaphores sem no_semaphore refl in
     let e = o.waiting p in
-    let f = places_at_most (state_at t p) in
+    let f = at_most_one (state_at t p) in
     omega arith)
 
 -- A pool has at most as many free buffers as buffers.
@@ -125,12 +121,6 @@ few_calls n s w =
     let same = ap length files.waiters in
     let calls = few_asked (λ (a : FileRequest). a.caller) (files_of s).calls files.itself.callers in
     omega (arith, waiters, same, calls)
-
--- One of them has to take effect, or none.
-pub least_at_most : (calls : List FileRequest) (w : FileWork) → least_effects calls w ≤ 1
-least_at_most [] w = omega arith
-least_at_most (a ∷ calls) w =
-    cond_both (nat_lt (w.turns + 1) (most_turns a.call w.system)) 0 1 (λ n. n ≤ 1) (λ _. omega arith) (λ _. omega arith)
 
 -- A state within bounds holds no more than its lines can say.
 pub few_within : (n : ℕ) (s : Xinu) → IsWithin n s → AreFew s

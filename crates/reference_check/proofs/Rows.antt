@@ -3,7 +3,7 @@ use Rattle.std.proofs.Common.{◌≡◌, ◌⊎◌, ◌<◌, ℕ, true, leb, Lis
 use Rattle.std.proofs.lemmas.Bool.{leb-true}
 use Rattle.std.specs.Prelude.{IfOk}
 use Rattle.reference_check.specs.Leaving.{Leaves, NoneMade}
-use Rattle.reference_check.proofs.Made.{none_if_same, plain_none}
+use Rattle.reference_check.proofs.Made.{plain_none}
 use Rattle.reference_state.specs.Answers.{came_to}
 use Rattle.reference_state.specs.declared.answers.Answer.{Answer}
 use Rattle.reference_switch.specs.Outcomes.{LeavesFiles, comes_to}
@@ -14,6 +14,7 @@ use Rattle.xinu_model.specs.Calls.{called, calls}
 use Rattle.xinu_model.specs.Machine.{CallResult, CallState, Xinu, refused}
 use Rattle.xinu_model.specs.Rows.{CallRow, done_by, found_in}
 use Rattle.xinu_model.specs.Sound.State.{IsSound}
+use Rattle.xinu_laws.proofs.FileSyscalls.Chosen.{none_if_same}
 
 -- what a call on a device comes to is the row of a number
 pub device_row : {E : Type 0} (n number : ℕ) (args : List ℕ) (s : Xinu) (d : CallState) (r : Result DeviceOutcome E) → number ≡ n

@@ -16,7 +16,7 @@ use Rattle.xinu_model.specs.Files.Work.{FileRequest, FileStep, FileWork, byte_co
 use Rattle.xinu_model.specs.Memory.{ram_size}
 
 -- at most one has to take effect
-one_at_most : (calls : List FileRequest) (w : FileWork) → least_effects calls w ≤ 1
+pub one_at_most : (calls : List FileRequest) (w : FileWork) → least_effects calls w ≤ 1
 one_at_most [] w = omega arith
 one_at_most (a ∷ calls) w = cond_both (nat_lt (w.turns + 1) (most_turns a.call w.system)) 0 1 (λ n. n ≤ 1) (λ _. omega arith) (λ _. omega arith)
 

@@ -130,11 +130,11 @@ image_keeps : (i : ℕ) (fault : Option ℕ) → option_map (refusal.Image i) fa
 image_keeps i None is = cc
 image_keeps i (Some f) is = cc
 
-raw_keeps : (f : Option DiskFault) → option_map raw_broken f ≢ Some refusal.Usage
+pub raw_keeps : (f : Option DiskFault) → option_map raw_broken f ≢ Some refusal.Usage
 raw_keeps None is = cc
 raw_keeps (Some x) is = cc
 
-clean_keeps : (f : Option DiskFault) → option_map rule_broken f ≢ Some refusal.Usage
+pub clean_keeps : (f : Option DiskFault) → option_map rule_broken f ≢ Some refusal.Usage
 clean_keeps None is = cc
 clean_keeps (Some x) is = cc
 

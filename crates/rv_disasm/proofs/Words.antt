@@ -4,8 +4,8 @@ use Rattle.std.specs.Prelude.{◌==◌, if◌then◌else◌}
 use Rattle.std.specs.List.{list_all}
 use Rattle.std.proofs.lemmas.Bool.{and_parts}
 use Rattle.text_lines.specs.Lines.{is_blank}
-use Rattle.asm_syntax.specs.Tokens.{Token, Blank, Colon, Comma, Word, Quoted, Unclosed, Inside, ends_word, joined, tokens_from, tokens_of}
-use Rattle.asm_syntax.proofs.TokenLemmas.{apart}
+use Rattle.asm_syntax.specs.Tokens.{Blank, Colon, Comma, Word, Inside, ends_word, joined, tokens_from, tokens_of}
+use Rattle.asm_syntax.proofs.TokenLemmas.{apart, apart-joined}
 
 -- a byte that ends no word
 abbrev pub is_plain : ℕ → Bool
@@ -27,15 +27,6 @@ joins false false false true colon b line is = cc
 joins false false false false true b line is = cc
 joins false false false false false b line is = refl
 
-joined-apart : (b : ℕ) (ts : List Token) → apart ts ≡ true → joined b ts ≡ Word (b ∷ []) ∷ ts
-joined-apart b [] is = refl
-joined-apart b (Blank ∷ ts) is = refl
-joined-apart b (Colon ∷ ts) is = refl
-joined-apart b (Comma ∷ ts) is = refl
-joined-apart b (Word w ∷ ts) is = cc
-joined-apart b (Quoted t ∷ ts) is = refl
-joined-apart b (Unclosed ∷ ts) is = refl
-
 -- a byte of a word joins what follows
 plain_byte : (b : ℕ) (line : List ℕ) → is_plain b ≡ true → tokens_of (b ∷ line) ≡ joined b (tokens_of line)
 plain_byte b line is = joins (is_blank b) (b == 35) (b == 34) (b == 44) (b == 58) b line is
@@ -46,7 +37,7 @@ pub word_before : (word line : List ℕ) → is_plain_word word ≡ true → apa
 word_before [] line is ends = cc
 word_before (b ∷ []) line is ends =
     let both = and_parts (is_plain b) true is in
-    plain_byte b line both.0 ∙ joined-apart b (tokens_of line) ends
+    plain_byte b line both.0 ∙ apart-joined b (tokens_of line) ends
 word_before (b ∷ c ∷ word) line is ends =
     let both = and_parts (is_plain b) (is_plain_word (c ∷ word)) is in
     plain_byte b ((c ∷ word) ++ line) both.0 ∙ ap (joined b) (word_before (c ∷ word) line both.1 ends)

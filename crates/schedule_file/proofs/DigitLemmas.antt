@@ -9,7 +9,7 @@ use Rattle.std.proofs.lemmas.Str.Parse.{IsDigitsTest, numerals_by_value, digits_
 use Rattle.schedule_file.specs.Numbers.{is_digit}
 
 -- The test is one of decimal digits.
-tests_digits : IsDigitsTest (λ digits. list_all is_digit digits ≡ true)
+pub tests_digits : IsDigitsTest (λ digits. list_all is_digit digits ≡ true)
 tests_digits = search rules
 
 -- each byte of a number is the character of a digit

@@ -1,5 +1,5 @@
 -- A schedule that is written reads as its events.
-use Rattle.std.proofs.Common.{◌≡◌, ◌∙◌, ℕ, ◌+◌, ◌*◌, ◌/◌, ◌%◌, ◌^◌, ◌<◌, ◌≤◌, nat_lt, Bool, true, false, not, cond, List, [], ◌∷◌, ◌++◌, length, drop, replicate, Option, Some, None, refl, ap, arith, rules, length-append, ⊎_elim}
+use Rattle.std.proofs.Common.{◌≡◌, ◌∙◌, ℕ, ◌+◌, ◌*◌, ◌/◌, ◌%◌, ◌^◌, ◌<◌, ◌≤◌, nat_lt, Bool, true, false, not, cond, List, [], ◌∷◌, ◌++◌, length, drop, replicate, Option, Some, None, refl, ap, arith, length-append, ⊎_elim}
 use Rattle.std.specs.Prelude.{◌==◌, ◌&&◌, codes, option_map}
 use Rattle.std.specs.Fmt.{decimal}
 use Rattle.std.specs.List.{list_all, position_or_len}
@@ -9,7 +9,7 @@ use Rattle.std.proofs.lemmas.Bool.{and_parts, cases_lt, le-leb, le-ltb, lt-leb, 
 use Rattle.std.proofs.lemmas.Bool.Decides.{nat_tests}
 use Rattle.std.proofs.lemmas.Fmt.{decimal_nonempty, digits_decimal, digits_value-decimal, length-decimal-le}
 use Rattle.std.proofs.lemmas.List.Folds.{list_all-append}
-use Rattle.std.proofs.lemmas.Str.Parse.{IsDigitsTest, numerals_by_value}
+use Rattle.std.proofs.lemmas.Str.Parse.{numerals_by_value}
 use Rattle.xinu_base.specs.Hexadecimal.{hex_digit}
 use Rattle.xinu_base.specs.declared.events.Event.{Event}
 use Rattle.xinu_base.specs.declared.events.Event.TheVariants.{Step, Tick, Key, Tx, Disk0, Disk1, Fail0, Fail1, Dump}
@@ -19,6 +19,7 @@ use Rattle.text_lines.proofs.TokenLemmas.{tokens_of-cut, tokens_of-last}
 use Rattle.schedule_file.specs.LineKinds.{line_events, token_events}
 use Rattle.schedule_file.specs.Numbers.{count_written, hex_value, is_digit, most_events}
 use Rattle.schedule_text.specs.Written.{is_joined, line_of, counted, IsWritten}
+use Rattle.schedule_file.proofs.DigitLemmas.{tests_digits}
 
 -- ---- the bytes of a line
 
@@ -118,9 +119,6 @@ two_tokens n name token solid some other =
     ∙ ap (λ (tokens : List (List ℕ)). first ∷ tokens) (tokens_of-last token some (not_found (position_or_len is_blank token) (length token) none))
 
 -- ---- a count
-
-tests_digits : IsDigitsTest (λ digits. list_all is_digit digits ≡ true)
-tests_digits = search rules
 
 digit_solid : (b : ℕ) → is_digit b ≡ true → is_solid b ≡ true
 digit_solid b digit = grind (arith, nat_tests)

@@ -6,7 +6,6 @@ use Rattle.xinu_base.specs.declared.events.Event.{Event}
 use Rattle.xinu_base.specs.declared.events.Event.TheVariants.{Step, Tick, Key, Tx, Disk0, Disk1, Fail0, Fail1, Dump}
 use Rattle.xinu_base.specs.declared.lines.TranscriptLine.{TranscriptLine}
 use Rattle.xinu_base.specs.declared.lines.TranscriptLine.TheVariants as line
-use Rattle.xinu_base.specs.declared.processes.Rest.{Rest}
 use Rattle.xinu_base.specs.declared.processes.Rest.TheVariants as rest
 use Rattle.xinu_base.specs.declared.registers.Outcome.{Outcome}
 use Rattle.xinu_base.specs.declared.registers.Outcome.TheVariants as outcome
@@ -14,26 +13,23 @@ use Rattle.xinu_base.specs.declared.syscalls.Call.{Call}
 use Rattle.xinu_model.specs.Calls.{calls, called, continued}
 use Rattle.xinu_model.specs.Events.{call_of, with_executed, reacted, is_done, instruction_step, stepped, next_file_call, step_at_once, step_with, Happens}
 use Rattle.xinu_model.specs.Files.Syscalls.{files_of}
-use Rattle.xinu_model.specs.Files.Work.{FileRequest, orphaned_call}
+use Rattle.xinu_model.specs.Files.Work.{FileRequest}
 use Rattle.xinu_model.specs.Isa.Exec.{exec}
-use Rattle.xinu_model.specs.Machine.{Xinu, EventResult, CallResult, current_hart, start, nothing_happens, end_of_event, closed, replies_of, return_line, switched}
-use Rattle.xinu_model.specs.Process.Death.{exit}
+use Rattle.xinu_model.specs.Machine.{Xinu, EventResult, CallResult, current_hart, nothing_happens, end_of_event, closed, replies_of, return_line, switched}
 use Rattle.xinu_model.specs.RawDisk.Callers as callers
 use Rattle.xinu_model.specs.Semaphores.Calls.{semdelete, semreset, wait, signal, signaln}
 use Rattle.xinu_model.specs.Sound.State.{IsSound}
 use Rattle.xinu_model.specs.Tables.{Tables, process_at}
 use Rattle.xinu_model.specs.Words.{signed}
 use Rattle.part_laws.specs.Preserve.{MayCallAny}
-use Rattle.xinu_laws.specs.Touches.{reach, touched_by, Touches}
-use Rattle.xinu_model.specs.Footprints.{on_tables}
-use Rattle.xinu_model.specs.Messages.{sent}
-use Rattle.xinu_laws.proofs.Touches.Moves.{touches_sent}
 use Rattle.xinu_laws.proofs.FileSyscalls.AtOnce.{next_is}
 use Rattle.xinu_laws.proofs.Preserve.Events.{may_call, may_call_after}
 use Rattle.xinu_laws.proofs.Touches.Continued.{continued_touches}
 use Rattle.xinu_laws.proofs.Touches.Semaphores.{semdelete_touches, semreset_touches, wait_touches, signal_touches, signaln_touches}
 use Rattle.scheduling_laws.specs.Moments.{call_in, first_call}
 use Rattle.scheduling_laws.specs.Tokens.{changes_semaphore}
+use Rattle.xinu_laws.proofs.FileSyscalls.Chosen.{touched_files, exit_none}
+use Rattle.xinu_laws.proofs.Preserve.Within.{sound_where_called}
 
 -- The call is made in a sound state with the tables of before, and the event ends with what it leaves.
 pub record IsCalled (old : Xinu) (call : Call) (after : Tables) : Type 0 where
@@ -90,21 +86,6 @@ files_stay number args s k e =
     (λ f. subst P (sym f) (subst keeps (sym (signals_by_many args s)) ((signaln_touches (slice_index args 0) (signed (slice_index args 1)) s k).parts.devices.files refl)))
     r) r) r) (one_of_five number e)
 
--- nor does what is left of a call
-rest_spares_files : (left : Rest) → (touched_by left).files ≡ false
-rest_spares_files (rest.GetBuf i) = refl
-rest_spares_files (rest.PtSend ticket message) = refl
-rest_spares_files (rest.PtRecv ticket) = refl
-rest_spares_files rest.TtyGet = refl
-rest_spares_files (rest.TtyRead part) = refl
-rest_spares_files (rest.TtyPut b returned) = refl
-rest_spares_files (rest.TtyWrite part returned) = refl
-rest_spares_files _ = refl
-
--- who may call does so in a sound state
-caller_sound : (s : Xinu) → MayCallAny s → IsSound s
-caller_sound s c = record { tables = c.may.tables; harts = c.may.harts; unused = c.unused; pools = c.pools; ports = c.ports; devices = c.devices; ram = c.ram }
-
 -- what begins with answers or a switch doesn't begin with a call
 none_first : (replies : List (ℕ × ℤ)) (was is : ℕ) → first_call (map return_line replies ++ switched was is) ≡ None
 none_first (r ∷ replies) was is = refl
@@ -121,7 +102,7 @@ reacted_tells outcome.Call old s c e call first changing =
     let made = call_of (current_hart s) in
     let same : made ≡ call = cc in
     subst (λ (x : Call). IsCalled old x (closed (called made.number made.args s))) same
-    (record { state = s; sound = caller_sound s c; tables = e; not_null = c.may.not_null; leaves = refl })
+    (record { state = s; sound = sound_where_called s c; tables = e; not_null = c.may.not_null; leaves = refl })
 reacted_tells outcome.Exit old s c e call first changing =
     let number : 9 ≡ call.number = cc in
     let f : changes_semaphore 9 ≡ true = subst (λ n. changes_semaphore n ≡ true) (sym number) changing in
@@ -142,14 +123,6 @@ stepped_tells s k =
     let none = none_first (replies_of (continued left s)) s.tables.current (closed (continued left s)).current in
     let f = sym none ∙ first in cc))
 
--- an exit makes no call on files
-exit_spares : (s : Xinu) → (files_of s).calls ≡ [] → (files_of (exit s).call.state).calls ≡ []
-exit_spares s none =
-    let p = s.tables.current in
-    let told = sent (process_at s.tables p).parent p (start s) in
-    let kept : Touches (reach on_tables) s told.state = touches_sent (process_at s.tables p).parent p (start s) in
-    ap (callers.given_up (λ (a : FileRequest). a.caller) orphaned_call p) (ap (λ w. w.calls) (kept.parts.devices.files refl) ∙ none)
-
 -- A step that tells of such a call makes no call on files,
 abbrev Spares : Xinu → EventResult → Type 0
 Spares s r = (files_of s).calls ≡ [] → (files_of r.state).calls ≡ []
@@ -158,8 +131,8 @@ reacted_spares : (o : Outcome) (s : Xinu) → IsSound s → changes_semaphore (c
 reacted_spares outcome.Went s k changing none = none
 reacted_spares outcome.Call s k changing none =
     let call = call_of (current_hart s) in ap (λ w. w.calls) (files_stay call.number call.args s k changing) ∙ none
-reacted_spares outcome.Exit s k changing none = exit_spares s none
-reacted_spares (outcome.Trap cause) s k changing none = exit_spares s none
+reacted_spares outcome.Exit s k changing none = exit_none s none
+reacted_spares (outcome.Trap cause) s k changing none = exit_none s none
 
 stepped_spares : (s : Xinu) → IsSound s → changes_semaphore (call_of (current_hart (with_executed (exec (current_hart s) s.memory) s))).number ≡ true
     → Spares s (stepped s)
@@ -171,8 +144,8 @@ stepped_spares s k changing =
     (λ _ none. none)
     (λ b. let c = may_call s k (eqb-false s.tables.current 0 b) in
     cond_both (is_done left) (instruction_step s) goes_on (Spares s)
-    (λ _. reacted_spares did.outcome (with_executed did s) (caller_sound (with_executed did s) (may_call_after s c)) changing)
-    (λ _ none. ap (λ w. w.calls) ((continued_touches left s k).parts.devices.files (rest_spares_files left)) ∙ none))
+    (λ _. reacted_spares did.outcome (with_executed did s) (sound_where_called (with_executed did s) (may_call_after s c)) changing)
+    (λ _ none. ap (λ w. w.calls) ((continued_touches left s k).parts.devices.files (touched_files left)) ∙ none))
 
 -- so that none takes effect in it as it is made.
 at_once_tells : (a : FileRequest) (s : Xinu) → next_file_call s ≡ Some a → IsSound s → Tells s (step_at_once a s)

@@ -1,5 +1,5 @@
 -- An accepted wait lowers the count of its semaphore by one, and an accepted signal raises it by one.
-use Rattle.std.proofs.Common.{◌≡◌, ◌≢◌, ℕ, zero, suc, ◌+◌, ◌<◌, ◌==◌, ◌&&◌, not, true, cond, List, [], ◌∷◌, ◌++◌, length, length-append, refl, sym, ap, subst, ◌∙◌, arith, pos, get_or-set_same, ◌||◌, false, ⊎_elim, Some}
+use Rattle.std.proofs.Common.{◌≡◌, ◌≢◌, ℕ, zero, suc, ◌+◌, ◌<◌, ◌==◌, ◌&&◌, not, true, cond, List, [], ◌∷◌, ◌++◌, length, length-append, refl, sym, ap, subst, ◌∙◌, arith, pos, get_or-set_same, ◌||◌, false, Some}
 use Rattle.std.specs.Prelude.{◌+ℤ◌, neg_ℤ, int_lt, slice_set}
 use Rattle.std.proofs.lemmas.Bool.{and_from, cond_both, both_ways, eq-eqb, ne_eqb, or_from}
 use Rattle.std.proofs.lemmas.Int.{ints}
@@ -30,7 +30,7 @@ use Rattle.table_laws.specs.Preserve.{MayCall}
 use Rattle.xinu_laws.proofs.Preserve.Semaphores.{good_semaphore}
 use Rattle.table_laws.proofs.Frame.MoveTo.{owner_move, tokens_move}
 use Rattle.table_laws.proofs.Tables.Signals.{others_wait}
-use Rattle.xinu_laws.proofs.RawDisks.Moves.{waiter_added}
+use Rattle.xinu_laws.proofs.RawDisks.Moves.{waiter_added, waits_not_null}
 use Rattle.scheduling_laws.proofs.Waiters.{not_waiting}
 use Rattle.scheduling_laws.proofs.Resched.{by_resched}
 
@@ -203,12 +203,6 @@ semaphore_sent q m sem d o =
     no_place Suspended b = cc
     no_place Waiting b = cc
 
--- the null process doesn't wait
-waiter_not_null : (t : Tables) (p : ℕ) → IsInside t → state_at t p ≡ Waiting → p ≢ 0
-waiter_not_null t p o w e =
-    let f : state_at t 0 ≡ Waiting = sym (ap (state_at t) e) ∙ w in
-    ⊎_elim (λ (g : state_at t 0 ≡ Current). let h = sym f ∙ g in cc) (λ (g : state_at t 0 ≡ Ready). let h = sym f ∙ g in cc) o.null
-
 -- A waiter is killed.
 killed_count : (sem p : ℕ) (s : Xinu) → IsSound s → 0 < count_in p (semaphore_at s.tables sem).waiters
     → count_of (semaphore_at (closed (returns (killed p (start s)) OK)) sem) ≡ count_of (semaphore_at s.tables sem) +ℤ pos 1
@@ -221,7 +215,7 @@ killed_count sem p s k here =
     let told = (sent (process_at t p).parent p (start s)).state.tables in
     let waits = waiter_waits t sem p o here in
     let within = within_table t p o.processes (λ f. let g = sym waits ∙ f in cc) in
-    let i : IsInside u = inside_killed p (start s) o within (waiter_not_null t p o waits) in
+    let i : IsInside u = inside_killed p (start s) o within (waits_not_null t p o waits) in
     let after : semaphore_at u sem ≡ semaphore_without p x =
     semaphore_at_without p sem told.semaphores ∙ ap (semaphore_without p) (semaphore_sent (process_at t p).parent p sem (start s) o) in
     let all = o.waiting p in
@@ -242,7 +236,7 @@ kill_raises sem p s k here =
     let dies = returns (killed p (start s)) OK in
     let P : CallResult → Type 0 = λ h. count_of (semaphore_at (closed h) sem) ≡ count_of (semaphore_at t sem) +ℤ pos 1 in
     let alive : no_one ≡ false =
-    or_from (p == 0) (is_free (state_at t p)) (ne_eqb p 0 (waiter_not_null t p k.tables.inside waits)) (ap is_free waits) in
+    or_from (p == 0) (is_free (state_at t p)) (ne_eqb p 0 (waits_not_null t p k.tables.inside waits)) (ap is_free waits) in
     let other : (p == t.current) ≡ false = ne_eqb p t.current (λ e. let g = sym waits ∙ ap (state_at t) e ∙ k.tables.runs in cc) in
     cond_both no_one (refused s) (cond (p == t.current) (exit s) dies) P (λ b. absurd (both_ways no_one alive b))
     (λ _. cond_both (p == t.current) (exit s) dies P (λ b. absurd (both_ways (p == t.current) other b)) (λ _. killed_count sem p s k here))

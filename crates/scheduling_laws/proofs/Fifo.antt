@@ -7,7 +7,6 @@ use Rattle.xinu_base.specs.declared.events.Event.{Event}
 use Rattle.xinu_base.specs.declared.lines.TranscriptLine.{TranscriptLine}
 use Rattle.xinu_base.specs.declared.processes.Process.{Process}
 use Rattle.xinu_base.specs.declared.processes.Rest.TheVariants as rest
-use Rattle.xinu_base.specs.declared.processes.State.{State}
 use Rattle.xinu_base.specs.declared.processes.State.TheVariants.{Free, Current, Ready, Suspended, Waiting}
 use Rattle.xinu_model.specs.Clock.{due, ticked}
 use Rattle.xinu_model.specs.Events.{Happens}
@@ -22,7 +21,6 @@ use Rattle.xinu_model.specs.Sound.Tables.{count_in, waiting_places, sleeping_pla
 use Rattle.xinu_model.specs.Tables.{no_process, Semaphore, no_semaphore, Tables, process_at, state_at, message_at, semaphore_at, numbers_without, semaphores_in, waits_without, Place, Nowhere, InReady, move_to}
 use Rattle.table_laws.proofs.Lists.Counts.{count_last_other, numbers_without_other, numbers_without_same, two-le-total}
 use Rattle.table_laws.proofs.Tables.MoveTo.{by_number, within_table, state_move_same, state_move_other}
-use Rattle.table_laws.proofs.Tables.States.{is_ready_of}
 use Rattle.table_laws.proofs.Tables.Unblock.{IsOneOf, unblock_all_with_ready, waiter_waits}
 use Rattle.xinu_laws.proofs.Preserve.Events.{sound_happens}
 use Rattle.scheduling_laws.specs.Fairness.{IsBefore, IsReleased, WaitsBefore}
@@ -32,10 +30,7 @@ use Rattle.scheduling_laws.proofs.Passes.Events.{IsCarried, carried_happens}
 use Rattle.scheduling_laws.proofs.Resched.{by_resched, by_tick}
 use Rattle.scheduling_laws.proofs.Waiters.{none_counted_of, waiters_given, waiters_left, waiters_moved}
 use Rattle.scheduling_laws.proofs.Waking.{never_due}
-
--- who is ready doesn't wait
-idle_ready : (s : State) → is_ready s ≡ true → is_waiting s ≡ false
-idle_ready s e = ap is_waiting (is_ready_of s e)
+use Rattle.xinu_laws.proofs.Touches.Processes.{idle_ready}
 
 module _ (sem p q : ℕ) where
   -- q waits on the semaphore after p, and on no other;

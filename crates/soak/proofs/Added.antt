@@ -1,9 +1,10 @@
 -- The counts of the text of lines with others after them.
 use Rattle.std.proofs.Common.{◌≡◌, ◌∙◌, ℕ, List, [], ◌++◌, codes, sym, ap, arith}
-use Rattle.soak.proofs.Joined.{with_appended, with_none}
+use Rattle.soak.proofs.Joined.{with_appended}
 use Rattle.workload.specs.Summaries.{Counts, added, counts_of}
 use Rattle.xinu_base.specs.declared.lines.TranscriptLine.{TranscriptLine}
 use Rattle.xinu_model.specs.Text.{text}
+use Rattle.workload.proofs.Counted.{lines_with-none}
 
 -- equal parts make equal counts
 of_parts : (a b c d e f g h : ℕ) → a ≡ e → b ≡ f → c ≡ g → d ≡ h
@@ -34,8 +35,8 @@ counted_on a b c first second one two =
 -- nothing is counted of no lines
 pub counted_nothing : (c : Counts) → c ≡ added c (counts_of (text []))
 counted_nothing c =
-    let calls = with_none (codes "call") in
-    let replies = with_none (codes "ret") in
-    let switches = with_none (codes "run") in
-    let sent = with_none (codes "con") in
+    let calls = lines_with-none (codes "call") in
+    let replies = lines_with-none (codes "ret") in
+    let switches = lines_with-none (codes "run") in
+    let sent = lines_with-none (codes "con") in
     of_parts _ _ _ _ _ _ _ _ (omega (arith, calls)) (omega (arith, replies)) (omega (arith, switches)) (omega (arith, sent))

@@ -7,6 +7,8 @@ use Rattle.text_lines.specs.Lines.{lines_of, tokens_of, whole_lines, without_ret
 use Rattle.workload.specs.Summaries.{begin_with, lines_with}
 use Rattle.xinu_base.specs.declared.lines.TranscriptLine.{TranscriptLine}
 use Rattle.xinu_model.specs.Text.{line_fields, text, with_fields}
+use Rattle.text_lines.proofs.LineLemmas.{whole_lines-cons}
+use Rattle.workload.proofs.Counted.{lines_with-none}
 
 abbrev is_feed : ℕ → Bool
 is_feed b = b == 10
@@ -33,16 +35,10 @@ split_joined : (a b : List ℕ) → slice_split is_feed (a ++ 10 ∷ b) ≡ slic
 split_joined [] b = slice_split-cons_yes is_feed 10 b refl
 split_joined (x ∷ a) b = split_one (is_feed x) x a b refl (split_joined a b)
 
-whole_cons : (line : List ℕ) (lines : List (List ℕ)) → 0 < length lines → whole_lines (line ∷ lines) ≡ without_return line ∷ whole_lines lines
-whole_cons [] [] some = absurd (omega arith)
-whole_cons [] (next ∷ lines) some = refl
-whole_cons (b ∷ line) [] some = absurd (omega arith)
-whole_cons (b ∷ line) (next ∷ lines) some = refl
-
 whole_joined : (u v : List (List ℕ)) → 0 < length v → whole_lines (u ++ v) ≡ map without_return u ++ whole_lines v
 whole_joined [] v some = refl
 whole_joined (line ∷ u) v some =
-    whole_cons line (u ++ v) (longer u v some) ∙ ap (λ (ls : List (List ℕ)). without_return line ∷ ls) (whole_joined u v some)
+    whole_lines-cons line (u ++ v) (longer u v some) ∙ ap (λ (ls : List (List ℕ)). without_return line ∷ ls) (whole_joined u v some)
   where
     longer : (u v : List (List ℕ)) → 0 < length v → 0 < length (u ++ v)
     longer [] v some = some
@@ -66,14 +62,10 @@ with_joined word a b =
     let f : List ℕ → ℕ = λ line. cond (begin_with word (tokens_of line)) 1 0 in
     ap (sum_by f) (lines_joined a b) ∙ sum_by-append f (lines_of (a ++ 10 ∷ [])) (lines_of b)
 
-pub with_none : (word : List ℕ) → lines_with word [] ≡ 0
-unfolding lines_with
-with_none word = refl
-
 -- lines with a word in the text of lines with others after them
 pub with_appended : (word : List ℕ) (first second : List TranscriptLine)
     → lines_with word (text (first ++ second)) ≡ lines_with word (text first) + lines_with word (text second)
-with_appended word [] second = let none = with_none word in omega (arith, none)
+with_appended word [] second = let none = lines_with-none word in omega (arith, none)
 with_appended word (line ∷ first) second =
     let fields = with_fields [] (line_fields line) in
     let both = ap (lines_with word) (append_assoc fields (10 ∷ []) (text (first ++ second))) ∙ with_joined word fields (text (first ++ second)) in

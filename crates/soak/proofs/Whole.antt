@@ -1,21 +1,15 @@
 -- What is counted of a whole run, and how many events it has.
-use Rattle.std.proofs.Common.{◌≡◌, ◌∙◌, ℕ, zero, suc, List, [], ◌∷◌, ◌++◌, length, refl, ap}
+use Rattle.std.proofs.Common.{◌≡◌, ◌∙◌, ℕ, List, [], ◌∷◌, ◌++◌, ap}
 use Rattle.soak.proofs.Added.{added_to_none, counted_on}
 use Rattle.soak.specs.Counting.{CountsEvents}
 use Rattle.soak.specs.Soaks.{Soaks}
 use Rattle.transcript_laws.specs.Transcripts.{transcript}
-use Rattle.workload.specs.Schedules.{after_event, events, events_in}
+use Rattle.workload.specs.Schedules.{events}
 use Rattle.workload.specs.Summaries.{Counts, added, counts_of, summary}
 use Rattle.xinu_base.specs.declared.events.End.{End}
 use Rattle.xinu_base.specs.declared.lines.TranscriptLine.TheVariants as line
 use Rattle.xinu_model.specs.Machine.{Xinu}
 use Rattle.xinu_model.specs.Text.{tables_of, text}
-
--- so many events are drawn
-pub count_of_events : (n x : ℕ) → length (events_in n x) ≡ n
-unfolding events_in
-count_of_events zero x = refl
-count_of_events (suc n) x = ap suc (count_of_events n (after_event x))
 
 -- the counts before anything was counted
 abbrev pub nothing : Counts

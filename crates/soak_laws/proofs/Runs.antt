@@ -4,7 +4,7 @@ use Rattle.std.specs.List.{AllByRecursion}
 use Rattle.soak.specs.Soaks.{Soaks, Takes, TakesAfter}
 use Rattle.soak_laws.specs.Running.{AreRunning}
 use Rattle.soak_laws.specs.Schedule.{IsDrawn}
-use Rattle.soak_laws.proofs.Drawn.{all_drawn, how_many}
+use Rattle.soak_laws.proofs.Drawn.{all_drawn}
 use Rattle.soak_laws.proofs.Happening.{happened_on, no_panic, not_over}
 use Rattle.soak_laws.proofs.Programs.{programs_run}
 use Rattle.workload.specs.Programs.{after_programs, programs}
@@ -20,6 +20,7 @@ use Rattle.xinu_model.specs.Events.{panics_in}
 use Rattle.xinu_model.specs.Machine.{Xinu}
 use Rattle.xinu_model.specs.Runs.{end_with, is_over}
 use Rattle.xinu_model.specs.Text.{text}
+use Rattle.workload.proofs.Reading.{length-events_in}
 
 -- what comes of a run that takes so many events
 abbrev TakesAll : ℕ → List Event → End → Type 0
@@ -43,7 +44,7 @@ pub soak_ends : (disks : Disks) (seed : ℕ) (start last : Xinu) (taken : ℕ) (
 soak_ends disks seed start last taken lines end boots runs =
     let x = after_programs 1 4 seed in
     let all = all_taken taken start (events seed) lines last end (programs_run disks seed start boots) (all_drawn 200000 x) runs in
-    (all.0 ∙ how_many 200000 x, all.1)
+    (all.0 ∙ length-events_in 200000 x, all.1)
 
 -- Its line says so.
 pub line_says : (disks : Disks) (seed : ℕ) (start : Xinu) (summary_line : List ℕ) (last : Xinu) → boot_on disks (programs seed) ≡ Boots start

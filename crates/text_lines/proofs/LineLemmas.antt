@@ -28,7 +28,7 @@ without_return-keeps line (b ∷ c ∷ front) last is other =
     rw is (ap (λ (x : List ℕ). b ∷ x) (without_return-keeps (c ∷ front ++ last ∷ []) (c ∷ front) last refl other))
 
 -- a line with others after it
-whole_lines-cons : (line : List ℕ) (lines : List (List ℕ)) → 0 < length lines
+pub whole_lines-cons : (line : List ℕ) (lines : List (List ℕ)) → 0 < length lines
     → whole_lines (line ∷ lines) ≡ without_return line ∷ whole_lines lines
 whole_lines-cons [] [] some = absurd (omega arith)
 whole_lines-cons [] (next ∷ lines) some = refl

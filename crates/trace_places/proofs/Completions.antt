@@ -1,5 +1,5 @@
 -- A good completion of the disk with files: the calls that take effect come first, each with its line.
-use Rattle.std.proofs.Common.{◌≡◌, ◌⊎◌, ◌==◌, ℕ, zero, suc, ◌+◌, ◌-◌, ◌≤◌, false, if◌then◌else◌, List, [], ◌∷◌, ◌++◌, map, length, drop, refl, sym, ap, ◌∙◌, subst, inl, inr, ⊎_elim, append_assoc, append-nil, arith, ℤ}
+use Rattle.std.proofs.Common.{◌≡◌, ◌⊎◌, ◌==◌, ℕ, zero, suc, ◌+◌, ◌-◌, ◌≤◌, false, if◌then◌else◌, List, [], ◌∷◌, ◌++◌, map, length, drop, refl, sym, ap, ◌∙◌, subst, inl, inr, ⊎_elim, append_assoc, append-nil, arith}
 use Rattle.std.specs.Prelude.{unwrap_or}
 use Rattle.std.proofs.lemmas.Bool.{cond_both}
 use Rattle.xinu_base.specs.declared.events.Event.TheVariants.{Disk1}
@@ -19,6 +19,7 @@ use Rattle.transcript_laws.specs.Reading.{starts_with}
 use Rattle.transcript_laws.proofs.LineStarts.{turn_apart}
 use Rattle.transcript_laws.proofs.Texts.{rest_of, starts}
 use Rattle.trace_places.proofs.Fronts.{IsFront, other_line}
+use Rattle.transcript_laws.proofs.Told.{end_begins, nexts_most}
 
 -- the lines of this many calls, each of which took effect as the next one
 abbrev nexts : ℕ → List FileRequest → List TranscriptLine
@@ -133,12 +134,6 @@ all_notes (suc k) a calls s e few =
     ap (λ l. note_lines (next_effects k (first_effect l Finished w)).notes) e
     ∙ next_notes k calls y (first_calls calls _ _) (omega (arith, few))
 
--- what follows the notes of an event doesn't begin with a call that took effect as the next one
-end_begins : (replies : List (ℕ × ℤ)) (was is : ℕ) (more : List TranscriptLine) → begins_next more ≡ false
-    → begins_next ((map return_line replies ++ switched was is) ++ more) ≡ false
-end_begins [] was is more e = cond_both (was == is) [] (line.Switch is ∷ []) (λ l. begins_next (l ++ more) ≡ false) (λ _. e) (λ _. refl)
-end_begins (r ∷ replies) was is more e = refl
-
 -- what follows them
 abbrev after_notes : ℕ → Xinu → List TranscriptLine
 after_notes k s =
@@ -152,14 +147,6 @@ completion_lines k a calls s e few =
     let x = completing (calls_completed k (file_step s)) s in
     append_assoc (note_lines (calls_completed k (file_step s)).notes) (map return_line (replies_of x)) (switched s.tables.current (closed x).current)
     ∙ ap (λ l. l ++ after_notes k s) (all_notes k a calls s e few)
-
--- no more is told than there are calls
-nexts_most : (calls : List FileRequest) (rest : List ℕ) → nexts_told calls rest ≤ length calls
-nexts_most [] rest = omega arith
-nexts_most (a ∷ calls) rest =
-    let i = nexts_most calls (drop (length (moment_text Next a)) rest) in
-    cond_both (starts_with (moment_text Next a) rest) (suc (nexts_told calls (drop (length (moment_text Next a)) rest))) 0
-    (λ n. n ≤ suc (length calls)) (λ _. omega (arith, i)) (λ _. omega arith)
 
 effects_most : (a : FileRequest) (calls : List FileRequest) (rest : List ℕ) → effects_told (a ∷ calls) rest ≤ suc (length calls)
 effects_most a calls rest =

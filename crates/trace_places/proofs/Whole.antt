@@ -3,7 +3,7 @@ use Rattle.std.proofs.Common.{◌≡◌, ◌<◌, ◌≤◌, ℕ, true, List, []
 use Rattle.std.specs.Prelude.{◌&&◌, MatchOption, bytes_eq, if◌then◌else◌}
 use Rattle.std.proofs.lemmas.Bool.{and_parts, cond_both}
 use Rattle.std.proofs.lemmas.List.{length-append}
-use Rattle.part_laws.proofs.FileSystems.Orders.{own_bytes, same_bytes}
+use Rattle.part_laws.proofs.FileSystems.Orders.{same_bytes}
 use Rattle.part_laws.specs.GivenDisks.{AreSoundDisks}
 use Rattle.xinu_base.specs.Constants.{NPROC}
 use Rattle.xinu_base.specs.declared.events.End.{End}
@@ -26,6 +26,7 @@ use Rattle.transcript_laws.proofs.Texts.{begun, rest_of, same_rest, starts}
 use Rattle.trace_places.specs.Places.{IsMistake, Place, due_lines, mistake_after, mistake_from, mistake_in, mistake_of, mistake_past}
 use Rattle.trace_places.proofs.Exact.{IsMistakeFrom, a_run, mistake_is}
 use Rattle.trace_places.proofs.Stops.{GoesOn, StopsIn, stops, stuck}
+use Rattle.file_laws.proofs.Named.{bytes-self}
 
 -- lines that are in a text are read off it
 read_past : (lines : List TranscriptLine) (rest : List ℕ) (next : List ℕ → Option Place)
@@ -88,9 +89,6 @@ reads (l ∷ lines) rest next e =
     })
     (λ _ is. absurd (cc)) e
 
-bytes_same : (xs : List ℕ) → bytes_eq xs xs ≡ true
-bytes_same xs = own_bytes xs
-
 -- A text that goes wrong nowhere is accepted.
 past_none : (left : List ℕ) → mistake_past left ≡ None → left ≡ []
 past_none [] e = refl
@@ -102,7 +100,7 @@ last_read s end rest e =
     let lines = last_lines s end in
     let r = reads lines rest mistake_past e in
     let is : rest ≡ text lines = r.splits ∙ ap (λ x. text lines ++ x) (past_none r.left r.is) ∙ append-nil (text lines) in
-    ap (bytes_eq (text lines)) is ∙ bytes_same (text lines)
+    ap (bytes_eq (text lines)) is ∙ bytes-self (text lines)
 
 after_read : (o : Option End) (s : Xinu) (events : List Event) (rest : List ℕ)
     → (mistake_from s events rest ≡ None → accepts told s events rest ≡ true)

@@ -21,25 +21,25 @@ use Rattle.xinu_model.specs.Text.{call_fields, line_fields, line_text, signed_fi
 use Rattle.transcript_laws.specs.Reading.{starts_with}
 
 -- no digit is a blank
-abbrev AreDigits : List ℕ → Type 0
+abbrev pub AreDigits : List ℕ → Type 0
 AreDigits ds = AllByRecursion (λ d. (d == 32) ≡ false) ds
 
-glyph : (n : ℕ) → (digit_glyph false n == 32) ≡ false
+pub glyph : (n : ℕ) → (digit_glyph false n == 32) ≡ false
 glyph n = cond_both (nat_lt n 10) (48 + n) (87 + n) (λ d. (d == 32) ≡ false) (λ _. grind (arith, nat_tests)) (λ _. grind (arith, nat_tests))
 
-onto : (k n : ℕ) (acc : List ℕ) → AreDigits acc → AreDigits (digits_onto k 10 false n acc)
+pub onto : (k n : ℕ) (acc : List ℕ) → AreDigits acc → AreDigits (digits_onto k 10 false n acc)
 onto zero n acc h = h
 onto (suc k) n acc h =
     cond_both (n / 10 == 0) (digit_glyph false (n % 10) ∷ acc)
     (digits_onto k 10 false (n / 10) (digit_glyph false (n % 10) ∷ acc)) AreDigits
     (λ _. (glyph (n % 10), h)) (λ _. onto k (n / 10) (digit_glyph false (n % 10) ∷ acc) (glyph (n % 10), h))
 
-decimals : (n : ℕ) → AreDigits (decimal n)
+pub decimals : (n : ℕ) → AreDigits (decimal n)
 unfolding digits
 decimals n = onto 64 n [] tt
 
 -- after two numbers and a blank, texts that go on otherwise are apart
-blank_apart : (ds es : List ℕ) (a b : ℕ) (x y : List ℕ) → AreDigits ds → AreDigits es → (a == b) ≡ false
+pub blank_apart : (ds es : List ℕ) (a b : ℕ) (x y : List ℕ) → AreDigits ds → AreDigits es → (a == b) ≡ false
     → starts_with (ds ++ 32 ∷ a ∷ x) (es ++ 32 ∷ b ∷ y) ≡ false
 blank_apart [] [] a b x y p q n = ap (λ t. if t then starts_with x y else false) n
 blank_apart [] (e ∷ es) a b x y p q n =
@@ -57,7 +57,7 @@ pub file_text : (p : ℕ) (m : FileMoment) (rest : List ℕ)
 file_text p m rest = simp append_assoc
 
 -- lines of calls on files are apart if what became of the calls is
-moments_apart : (p q : ℕ) (m k : FileMoment) (a b : ℕ) (x y rest : List ℕ) → moment_name m ++ 10 ∷ [] ≡ a ∷ x
+pub moments_apart : (p q : ℕ) (m k : FileMoment) (a b : ℕ) (x y rest : List ℕ) → moment_name m ++ 10 ∷ [] ≡ a ∷ x
     → moment_name k ++ 10 ∷ rest ≡ b ∷ y → (a == b) ≡ false
     → starts_with (line_text (line.File p m)) (line_text (line.File q k) ++ rest) ≡ false
 moments_apart p q m k a b x y rest e f n =
@@ -72,7 +72,7 @@ pub turn_apart : (p q : ℕ) (rest : List ℕ) → starts_with (line_text (line.
 turn_apart p q rest = moments_apart p q Finished Turn _ _ _ _ rest refl refl refl
 
 -- a line goes on with its fields as it begins
-fields_begin : (x b : ℕ) (xs l : List ℕ) (fs : List (List ℕ)) (tail : List ℕ) → (x == b) ≡ false
+pub fields_begin : (x b : ℕ) (xs l : List ℕ) (fs : List (List ℕ)) (tail : List ℕ) → (x == b) ≡ false
     → starts_with (x ∷ xs) ((with_fields (b ∷ l) fs ++ 10 ∷ []) ++ tail) ≡ false
 fields_begin x b xs l [] tail n = ap (λ t. if t then starts_with xs ((l ++ 10 ∷ []) ++ tail) else false) n
 fields_begin x b xs l (f ∷ fs) tail n = fields_begin x b xs (l ++ 32 ∷ f) fs tail n
@@ -183,7 +183,7 @@ said_after p call rest =
     ∙ ap begins_done (after_call p call rest)
 
 -- what comes after the first blank of a number and a blank
-blank_ends : (ds rest : List ℕ) → AreDigits ds → after_blank (ds ++ 32 ∷ rest) ≡ rest
+pub blank_ends : (ds rest : List ℕ) → AreDigits ds → after_blank (ds ++ 32 ∷ rest) ≡ rest
 blank_ends [] rest h = refl
 blank_ends (d ∷ ds) rest h = ap (λ t. if t then ds ++ 32 ∷ rest else after_blank (ds ++ 32 ∷ rest)) h.0 ∙ blank_ends ds rest h.1
 

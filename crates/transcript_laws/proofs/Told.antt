@@ -12,7 +12,7 @@ use Rattle.xinu_model.specs.Agree.{begins_next}
 use Rattle.xinu_base.specs.declared.registers.Outcome.{Outcome}
 use Rattle.xinu_base.specs.declared.registers.Outcome.TheVariants as outcome
 use Rattle.xinu_laws.proofs.FileSyscalls.AtOnce.{next_is}
-use Rattle.xinu_laws.proofs.FileSyscalls.Texts.{other_runs}
+use Rattle.xinu_laws.proofs.FileSyscalls.Texts.{other_runs, after_notes}
 use Rattle.xinu_laws.proofs.Touches.Moves.{touches_sent}
 use Rattle.xinu_laws.specs.Touches.{reach, Touches}
 use Rattle.xinu_model.specs.Footprints.{on_tables}
@@ -35,7 +35,7 @@ use Rattle.transcript_laws.proofs.Texts.{starts, rest_of}
 use Rattle.transcript_laws.proofs.LineStarts.{done_begins, not_next, said_after, turn_apart}
 
 -- no more is told than there are calls
-nexts_most : (calls : List FileRequest) (rest : List ℕ) → nexts_told calls rest ≤ length calls
+pub nexts_most : (calls : List FileRequest) (rest : List ℕ) → nexts_told calls rest ≤ length calls
 nexts_most [] rest = omega arith
 nexts_most (a ∷ calls) rest =
     let i = nexts_most calls (drop (length (moment_text Next a)) rest) in
@@ -67,7 +67,7 @@ may_tell s Fail0 rest = omega arith
 may_tell s Fail1 rest = omega arith
 
 -- what follows the notes of an event doesn't begin with a call that took effect as the next one
-end_begins : (replies : List (ℕ × ℤ)) (was is : ℕ) (more : List TranscriptLine) → begins_next more ≡ false
+pub end_begins : (replies : List (ℕ × ℤ)) (was is : ℕ) (more : List TranscriptLine) → begins_next more ≡ false
     → begins_next ((map return_line replies ++ switched was is) ++ more) ≡ false
 end_begins [] was is more e = cond_both (was == is) [] (line.Switch is ∷ []) (λ l. begins_next (l ++ more) ≡ false) (λ _. e) (λ _. refl)
 end_begins (r ∷ replies) was is more e = refl
@@ -116,13 +116,6 @@ next_adds (suc k) (a ∷ calls) x e h =
       tell = λ tail n. one_told a calls (note_lines i.notes ++ tail) ∙ ap suc (i.tell tail n);
     }
 
--- the lines of a completion, from the notes on
-completion_lines : (notes replies end more : List TranscriptLine)
-    → ((notes ++ replies) ++ end) ++ more ≡ notes ++ ((replies ++ end) ++ more)
-completion_lines notes replies end more =
-    append_assoc (notes ++ replies) end more ∙ append_assoc notes replies (end ++ more)
-    ∙ ap (λ x. notes ++ x) (sym (append_assoc replies end more))
-
 -- The text of a completion tells how many calls took effect.
 completed_told : (k : ℕ) (a : FileRequest) (calls : List FileRequest) (s : Xinu) (more : List TranscriptLine)
     → (files_of s).calls ≡ a ∷ calls
@@ -134,7 +127,7 @@ completed_told zero a calls s more e few none =
     let first : x.notes ≡ had_turn a ∷ [] = ap (λ l. (turned l (file_step s)).notes) e in
     let replies = map return_line (replies_of (completing x s)) in
     let end = switched s.tables.current (closed (completing x s)).current in
-    ap (λ l. effects_told (a ∷ calls) (text l)) (completion_lines (note_lines x.notes) replies end more)
+    ap (λ l. effects_told (a ∷ calls) (text l)) (after_notes (note_lines x.notes) replies end more)
     ∙ ap (λ n. effects_told (a ∷ calls) (text (note_lines n ++ ((replies ++ end) ++ more)))) first
     ∙ ap (λ b. if b then suc (nexts_told calls (drop (length (moment_text Finished a))
     (text (note_lines (had_turn a ∷ []) ++ ((replies ++ end) ++ more))))) else 0)
@@ -149,7 +142,7 @@ completed_told (suc k) a calls s more e few none =
     let replies = map return_line (replies_of (completing x s)) in
     let end = switched s.tables.current (closed (completing x s)).current in
     let tail = (replies ++ end) ++ more in
-    ap (λ l. effects_told (a ∷ calls) (text l)) (completion_lines (note_lines x.notes) replies end more)
+    ap (λ l. effects_told (a ∷ calls) (text l)) (after_notes (note_lines x.notes) replies end more)
     ∙ ap (λ n. effects_told (a ∷ calls) (text (note_lines n ++ tail))) is
     ∙ first_told a calls (note_lines i.notes ++ tail)
     ∙ ap suc (i.tell tail (end_begins (replies_of (completing x s)) s.tables.current (closed (completing x s)).current more none))

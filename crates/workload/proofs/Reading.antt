@@ -156,7 +156,7 @@ all_written : (n x : ℕ) → AreWritten (events_in n x)
 all_written zero x = rw (events_in-zero x) tt
 all_written (suc n) x = rw (events_in-suc n x) (drawn_written x, all_written n (after_event x))
 
-length-events_in : (n x : ℕ) → length (events_in n x) ≡ n
+pub length-events_in : (n x : ℕ) → length (events_in n x) ≡ n
 length-events_in zero x = ap length (events_in-zero x)
 length-events_in (suc n) x = ap length (events_in-suc n x) ∙ omega (arith, length-events_in n (after_event x))
 

@@ -1,5 +1,5 @@
 -- The lines of the files of a disk, printed one after another.
-use Rattle.std.proofs.Common.{◌≡◌, ◌∙◌, ◌+◌, ◌≤◌, inl, inr, ℕ, Bool, true, false, cond, List, [], ◌∷◌, ◌++◌, length, take, Option, Some, None, refl, sym, ap, subst, arith, append-nil}
+use Rattle.std.proofs.Common.{◌≡◌, ◌∙◌, ◌+◌, ◌≤◌, inl, inr, ℕ, Bool, true, false, List, [], ◌∷◌, ◌++◌, length, take, Option, Some, None, refl, sym, ap, subst, arith, append-nil}
 use Rattle.std.specs.Prelude.{if◌then◌else◌}
 use Rattle.std.specs.List.{flat_map, slice_get}
 use Rattle.std.specs.Option.{option_map_or}
@@ -9,12 +9,13 @@ use Rattle.std.proofs.lemmas.Option.{get_or_from_slice_get, slice_get_cases, sli
 use Rattle.host_port.specs.Outside.{Outside}
 use Rattle.host_port.specs.Printing.{Printing, Prints}
 use Rattle.host_port.proofs.Prints.{prints_both, prints_nothing}
-use Rattle.lfs_layout.specs.Files.{File, files_of, is_before, listing, placed_files, sorted, bare_name, with_file}
+use Rattle.lfs_layout.specs.Files.{File, files_of, listing, placed_files, bare_name}
 use Rattle.lfs_layout.specs.Images.{IsCleanImage}
 use Rattle.lfs_layout.proofs.CleanOpens.{placed_room}
 use Rattle.xinu_commands.specs.DiskVerdict.{file_line, file_lines}
 use Rattle.xinu_commands.specs.Stages.{line_at}
 use Rattle.xinu_commands.proofs.Carried.{fresh}
+use Rattle.lfs_layout.proofs.ImageLaws.{length-sorted}
 
 -- the lines of the first k files
 unfoldable pub lines_to : ℕ → List ℕ → List ℕ
@@ -22,21 +23,11 @@ lines_to k d = flat_map file_line (take k (listing (files_of d)))
 
 -- ---- a disk has at most 78 files
 
-length_with : (f : File) (files : List File) → length (with_file f files) ≡ length files + 1
-length_with f [] = refl
-length_with f (x ∷ xs) =
-    let rest = length_with f xs in
-    elim (is_before f.name x.name) as (λ b. length (cond b (f ∷ x ∷ xs) (x ∷ with_file f xs)) ≡ length (x ∷ xs) + 1) [ true ↦ omega arith | false ↦ omega (arith, rest) ]
-
-length_sorted : (files : List File) → length (sorted files) ≡ length files
-length_sorted [] = refl
-length_sorted (f ∷ files) = (let one = length_with f (sorted files) in let rest = length_sorted files in omega (arith, one, rest))
-
 few_files : (d : List ℕ) → IsCleanImage d → length (listing (files_of d)) ≤ 78
 few_files d c =
     let few = (placed_room d c.faultless c.version).few in
     let one = length-map {B = List ℕ × ℕ} (files_of d) (λ (f : File). (bare_name f.name, length f.bytes)) in
-    let all = length_sorted (placed_files d) in omega (arith, few, one, all)
+    let all = length-sorted (placed_files d) in omega (arith, few, one, all)
 
 -- ---- the lines
 

@@ -1,12 +1,9 @@
 -- The verdict's stages, and that none finds that there is no command.
 use Rattle.std.proofs.Common.{◌≡◌, ◌≢◌, ℕ, Bool, true, false, nat_le, if◌then◌else◌, List, length, Option, Some, None, refl, ap}
-use Rattle.std.specs.Prelude.{option_map}
-use Rattle.lfs_check.specs.declared.faults.DiskFault.{DiskFault}
 use Rattle.xinu_base.specs.declared.events.Event.{Event}
 use Rattle.transcript_laws.specs.Transcripts.{checks}
 use Rattle.xinu_model.specs.Boot.{Disks, Loaded, Start, Boots, Overlaps, NoRoom, boot_on}
 use Rattle.run_inputs.proofs.JudgedFiles.{judged_keeps}
-use Rattle.run_inputs.specs.InputDisks.{raw_broken}
 use Rattle.run_inputs.specs.Judging.{Judged, Refused, Accepted, judged}
 use Rattle.run_inputs.specs.declared.refusals.Refusal.{Refusal}
 use Rattle.run_inputs.specs.declared.refusals.Refusal.TheVariants as refusal
@@ -71,10 +68,6 @@ unfolding trace_verdict
 trace_later trace events disks images =
     later_if (nat_le (length trace) longest_trace) (judged_verdict (boot_on disks images) (checks disks images events trace)) (Refuses refusal.TraceTooLong)
     (judged_later (boot_on disks images) (checks disks images events trace)) tt
-
-pub raw_keeps : (f : Option DiskFault) → option_map raw_broken f ≢ Some refusal.Usage
-raw_keeps None is = cc
-raw_keeps (Some x) is = cc
 
 -- inputs don't
 after_keeps : (next : Next) (later : (events : List Event) (disks : Disks) (images : List Loaded) → IsLater (next events disks images)) (j : Judged) → j ≢ Refused refusal.Usage

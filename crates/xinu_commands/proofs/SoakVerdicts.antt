@@ -11,8 +11,9 @@ use Rattle.xinu_commands.specs.DiskVerdict.{with_disk}
 use Rattle.xinu_commands.specs.SoakVerdict.{soak_on, soak_verdict, soaking_verdict}
 use Rattle.xinu_commands.specs.Work.{Refuses, Verdict}
 use Rattle.run_inputs.specs.declared.refusals.Refusal.TheVariants as refusal
-use Rattle.xinu_commands.proofs.Files.{raw_keeps, unless_fault_keeps, unless_fault_read, unless_fault_refused}
+use Rattle.xinu_commands.proofs.Files.{unless_fault_keeps, unless_fault_read, unless_fault_refused}
 use Rattle.xinu_commands.proofs.Staged.{disk_keeps}
+use Rattle.run_inputs.proofs.JudgedFiles.{raw_keeps}
 
 -- what is left after the raw disk
 abbrev after_raw : ℕ → List ℕ → Verdict

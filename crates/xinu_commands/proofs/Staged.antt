@@ -31,6 +31,7 @@ use Rattle.lfs_layout.specs.Images.{opened, repaired}
 use Rattle.xinu_commands.proofs.DiskFetched.{put_fetched, source_fetched}
 use Rattle.xinu_commands.proofs.DiskVerdicts.{put_sets}
 use Rattle.xinu_commands.proofs.Files.{unless_fault_keeps}
+use Rattle.run_inputs.proofs.JudgedFiles.{clean_keeps}
 
 -- what holds of a refusal holds of a result that is this refusal
 pub of_refused : {T : Type 0} (r : Result T Refusal) (cause : Refusal) (P : Option Refusal → Type 0) → IsErr r → IsErrAnd r (λ x. x ≡ cause) → P (Some cause) → P (refusal_of r)
@@ -172,10 +173,6 @@ performs_by action disk source ended h k s = record {
 
 -- ---- no action finds that there is no command
 
-pub broken_keeps : (f : Option DiskFault) → option_map rule_broken f ≢ Some refusal.Usage
-broken_keeps None is = cc
-broken_keeps (Some x) is = cc
-
 if_some_keeps : {T : Type 0} (cause : Refusal) (o : Option T) (next : T → Verdict) → cause ≢ refusal.Usage → ((x : T) → next x ≢ Refuses refusal.Usage)
     → if_some cause o next ≢ Refuses refusal.Usage
 if_some_keeps cause None next other rest is = (let same : cause ≡ refusal.Usage = cc in other same)
@@ -190,7 +187,7 @@ set_keeps name source d is =
     if_some_keeps refusal.DoesNotFit (disk_with name source d) (λ made. Does (Outputs [] (Some made) None)) (λ same. cc) (λ made. does_keeps (Outputs [] (Some made) None)) is
 
 pub disk_keeps : (disk : List ℕ) (next : List ℕ → Verdict) → ((d : List ℕ) → next d ≢ Refuses refusal.Usage) → with_disk disk next ≢ Refuses refusal.Usage
-disk_keeps disk next rest is = unless_fault_keeps (option_map rule_broken (disk_fault disk)) (Some (opened disk)) next (broken_keeps (disk_fault disk)) rest is
+disk_keeps disk next rest is = unless_fault_keeps (option_map rule_broken (disk_fault disk)) (Some (opened disk)) next (clean_keeps (disk_fault disk)) rest is
 
 pub action_keeps : (action : DiskAction) (held : Input → Text → List ℕ) → action_verdict action held ≢ Refuses refusal.Usage
 unfolding mkfs_verdict ls_verdict get_verdict put_verdict check_verdict repair_verdict
@@ -205,7 +202,7 @@ action_keeps (Check image) held is =
     disk_keeps (held DiskInput image) (λ d. Does (Outputs (report_line (report (held DiskInput image))) None None)) (λ d. does_keeps (Outputs (report_line (report (held DiskInput image))) None None)) is
 action_keeps (Repair image out) held is =
     unless_fault_keeps (option_map rule_broken (size_fault (held DiskInput image))) (Some (held DiskInput image)) (λ d. Does (Outputs (repair_line d) (Some (repaired d)) None))
-    (broken_keeps (size_fault (held DiskInput image))) (λ d. does_keeps (Outputs (repair_line d) (Some (repaired d)) None)) is
+    (clean_keeps (size_fault (held DiskInput image))) (λ d. does_keeps (Outputs (repair_line d) (Some (repaired d)) None)) is
 
 -- ---- an action whose disk was fetched, or not
 

@@ -43,7 +43,7 @@ resched_ticks t =
     preempted = cond_both (is_current (state_at t t.current)) (ready t.current t) t (λ u. u.ticks ≡ t.ticks) (λ _. refl) (λ _. refl)
 
 -- nor does the end of an event
-closed_ticks : (result : CallResult) → (closed result).ticks ≡ result.call.state.tables.ticks
+pub closed_ticks : (result : CallResult) → (closed result).ticks ≡ result.call.state.tables.ticks
 closed_ticks result =
     let t = result.call.state.tables in
     cond_both (result.call.owes_resched || is_off result.answer) (resched t) t (λ u. u.ticks ≡ t.ticks) (λ _. resched_ticks t) (λ _. refl)

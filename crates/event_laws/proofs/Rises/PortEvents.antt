@@ -46,7 +46,7 @@ abbrev pub RisesOnce : Xinu → Xinu → Type 0
 RisesOnce s u = (q : ℕ) → (port_at u.parts.ports q).seq ≤ (port_at s.parts.ports q).seq + 1
 
 -- none rises if the ports stay
-stays_once : (s u : Xinu) → u.parts.ports ≡ s.parts.ports → RisesOnce s u
+pub stays_once : (s u : Xinu) → u.parts.ports ≡ s.parts.ports → RisesOnce s u
 stays_once s u e q = let f = ap (λ (ports : List MessagePort). (port_at ports q).seq) e in omega (arith, f)
 
 -- the numbers with another port at q

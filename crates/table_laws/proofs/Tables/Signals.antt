@@ -37,7 +37,7 @@ signals_to_none sem n tokens d =
     (take_all {A = ℕ} n [] (omega arith))
 
 -- a number of places is at most one
-at_most_one : (s : State) → waiting_places s ≤ 1
+pub at_most_one : (s : State) → waiting_places s ≤ 1
 at_most_one Waiting = omega arith
 at_most_one _ = omega arith
 

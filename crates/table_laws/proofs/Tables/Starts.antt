@@ -157,7 +157,7 @@ boots_from (Overlaps i) next x e = cc
 boots_from (NoRoom i) next x e = cc
 
 -- if the next is made a stack was found
-made_on_stack : (found : Option Stack) (i : ℕ) (image : Loaded) (s y : Xinu) → where_stack found i image s ≡ Boots y
+pub made_on_stack : (found : Option Stack) (i : ℕ) (image : Loaded) (s y : Xinu) → where_stack found i image s ≡ Boots y
     → (stack : Stack) × (with_image i image stack s ≡ y)
 made_on_stack None i image s y e = cc
 made_on_stack (Some stack) i image s y e = (stack, cc)

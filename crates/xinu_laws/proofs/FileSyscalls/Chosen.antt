@@ -47,7 +47,7 @@ use Rattle.xinu_laws.proofs.Touches.Moves.{touches_sent}
 abbrev NoneMade : Xinu → Xinu → Type 0
 NoneMade s u = (files_of s).calls ≡ [] → ((files_of u).calls ≡ []) ⊎ (state_at u.tables u.tables.current ≡ Waiting)
 
-none_if_same : (s u : Xinu) → files_of u ≡ files_of s → NoneMade s u
+pub none_if_same : (s u : Xinu) → files_of u ≡ files_of s → NoneMade s u
 none_if_same s u same e = inl (ap (λ w. w.calls) same ∙ e)
 
 none_touched : (f : Footprint) {s u : Xinu} → f.files ≡ false → Touches (reach f) s u → NoneMade s u

@@ -75,7 +75,7 @@ end_leads [] was is more e =
     cond_both (was == is) [] (line.Switch is ∷ []) (λ l. nexts_led (l ++ more) ≡ 0) (λ _. led_none more e) (λ _. refl)
 end_leads (r ∷ replies) was is more e = refl
 
-after_notes : (notes replies end more : List TranscriptLine) → ((notes ++ replies) ++ end) ++ more ≡ notes ++ ((replies ++ end) ++ more)
+pub after_notes : (notes replies end more : List TranscriptLine) → ((notes ++ replies) ++ end) ++ more ≡ notes ++ ((replies ++ end) ++ more)
 after_notes notes replies end more =
     append_assoc (notes ++ replies) end more ∙ append_assoc notes replies (end ++ more)
     ∙ ap (λ x. notes ++ x) (sym (append_assoc replies end more))

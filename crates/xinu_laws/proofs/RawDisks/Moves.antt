@@ -88,7 +88,7 @@ abbrev pub replied : ℕ → ℤ → Tables → Tables
 replied p reply t = move_to p (record (process_at t p) { state = Ready; rest = Disk (Some reply) }) (message_at t p) InReady t
 
 -- the null process doesn't wait
-waits_not_null : (t : Tables) (p : ℕ) → IsInside t → state_at t p ≡ Waiting → p ≢ 0
+pub waits_not_null : (t : Tables) (p : ℕ) → IsInside t → state_at t p ≡ Waiting → p ≢ 0
 waits_not_null t p o w e =
     let f : state_at t 0 ≡ Waiting = sym (ap (state_at t) e) ∙ w in
     ⊎_elim (λ (g : state_at t 0 ≡ Current). let h = sym f ∙ g in cc) (λ (g : state_at t 0 ≡ Ready). let h = sym f ∙ g in cc) o.null

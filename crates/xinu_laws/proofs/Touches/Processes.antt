@@ -37,7 +37,7 @@ idle_suspended : (s : State) → is_suspended s ≡ true → is_waiting s ≡ fa
 idle_suspended Waiting h = cc
 idle_suspended _ h = refl
 
-idle_ready : (s : State) → is_ready s ≡ true → is_waiting s ≡ false
+pub idle_ready : (s : State) → is_ready s ≡ true → is_waiting s ≡ false
 idle_ready Waiting h = cc
 idle_ready _ h = refl
 

@@ -1,16 +1,16 @@
 use Rattle.std.proofs.Common.{◌≡◌, ◌∙◌, ◌+◌, ◌++◌, ap, arith, map, rules, true}
-use Rattle.reference_check.proofs.Fewness.{least_at_most}
 use Rattle.reference_check.proofs.FileSteps.{completes}
 use Rattle.xinu_model.specs.Files.Rest.{are_calls}
 use Rattle.xinu_model.specs.Files.Syscalls.{all_told, file_line, files_of}
 use Rattle.xinu_model.specs.Files.Work.{least_effects}
 use Rattle.xinu_model.specs.Machine.{CallState, start}
 use Rattle.reference_check.proofs.file_notes.files_complete.Goals as goal
+use Rattle.reference_files.proofs.Kept.{one_at_most}
 
 pub overflow_add-effects : goal.overflow_add-effects
 overflow_add-effects c =
     let least = c.least_effects.ensures.least in
-    let most = least_at_most c.m.inside.files.calls c.m.inside.files in
+    let most = one_at_most c.m.inside.files.calls c.m.inside.files in
     omega (arith, least, most)
 
 pub returns-clause-completes : goal.returns-clause-completes

@@ -3,12 +3,12 @@ use Rattle.given_disks.specs.Disks.{disks_of}
 use Rattle.image_loader.specs.ImageFiles.{image_in}
 use Rattle.image_loader.specs.Images.{loaded_of}
 use Rattle.soak.proofs.Loaded.{are_programs, programs_boot}
-use Rattle.soak.proofs.Whole.{count_of_events}
 use Rattle.workload.specs.Programs.{after_programs}
 use Rattle.soak.proofs.soak_test.soak.Goals as goal
+use Rattle.workload.proofs.Reading.{length-events_in}
 
 pub run-requires-clause-count : goal.run-requires-clause-count
-run-requires-clause-count c = ap length c.in-Ok.ensures.schedule ∙ count_of_events 200000 (after_programs 1 4 c.args.seed)
+run-requires-clause-count c = ap length c.in-Ok.ensures.schedule ∙ length-events_in 200000 (after_programs 1 4 c.args.seed)
 
 pub returns-in-Ok-run : goal.returns-in-Ok-run
 returns-in-Ok-run c =
