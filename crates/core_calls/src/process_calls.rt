@@ -31,10 +31,11 @@ pub(crate) fn resume(k: &mut KernelState, word: u32) -> Next
     let Some(p) = k.tables.alive(word) else {
         return Next::Returns(SYSERR);
     };
-    if !matches!(k.tables.state_of(p), State::Suspended) {
+    let process = k.tables.process(p);
+    if !matches!(process.state, State::Suspended) {
         return Next::Returns(SYSERR);
     }
-    let priority = k.tables.priority_of(p);
+    let priority = process.priority;
     k.tables.ready(p);
     k.owes_resched = true;
     Next::Returns(i32::from(priority))
@@ -54,8 +55,9 @@ pub(crate) fn suspend(k: &mut KernelState, word: u32) -> Next
     if p == Pid::default() {
         return Next::Returns(SYSERR);
     }
-    if matches!(k.tables.state_of(p), State::Ready) {
-        let priority = k.tables.priority_of(p);
+    let process = k.tables.process(p);
+    if matches!(process.state, State::Ready) {
+        let priority = process.priority;
         k.tables.suspend_ready(p);
         return Next::Returns(i32::from(priority));
     }
@@ -106,8 +108,9 @@ pub(crate) fn chprio(k: &mut KernelState, word: u32, priority: i16) -> Next
     let Some(p) = k.tables.alive(word) else {
         return Next::Returns(SYSERR);
     };
-    let before = k.tables.priority_of(p);
-    k.owes_resched = matches!(k.tables.state_of(p), State::Ready | State::Current);
+    let process = k.tables.process(p);
+    let before = process.priority;
+    k.owes_resched = matches!(process.state, State::Ready | State::Current);
     k.tables.set_priority(p, priority);
     Next::Returns(i32::from(before))
 }
@@ -118,7 +121,7 @@ pub(crate) fn getprio(k: &KernelState, word: u32) -> Next
     ensures getprio { came_to k.now.call result ≡ model.getprio word k.now.call.state }
 {
     match k.tables.alive(word) {
-        Some(p) => Next::Returns(i32::from(k.tables.priority_of(p))),
+        Some(p) => Next::Returns(i32::from(k.tables.process(p).priority)),
         None => Next::Returns(SYSERR),
     }
 }
@@ -143,7 +146,7 @@ pub(crate) fn go_on_suspend(k: &mut KernelState) -> Next
     ensures image { k.new.image ≡ k.old.image }
 {
     let current = k.tables.current();
-    let priority = k.tables.priority_of(current);
+    let priority = k.tables.process(current).priority;
     k.tables.go_on();
     Next::Returns(i32::from(priority))
 }

@@ -30,7 +30,7 @@ fn changes_in(k: &KernelState, seen: &Sight) -> Changes
     requires sound { IsSound k.now.call.state }
     ensures changed { AreChanged k.now.call.state seen.now.process result }
 {
-    if matches!(k.tables.state_of(seen.process), State::Free) {
+    if matches!(k.tables.process(seen.process).state, State::Free) {
         return Changes {
             register: None,
             stored: None,

@@ -40,14 +40,14 @@ fn seen(k: &KernelState, taken: u32) -> Sight
     let process = k.tables.current();
     let hart = k.harts[process.index()];
     let word = k.ram.read32(hart.pc);
-    let (top, size) = k.tables.stack_of(process);
-    let end = top.saturating_add(4);
+    let entry = k.tables.process(process);
+    let end = entry.stack.saturating_add(4);
     Sight {
         taken,
         process,
         hart,
         word,
-        stack: (end.saturating_sub(size), end),
+        stack: (end.saturating_sub(entry.stack_size), end),
     }
 }
 

@@ -38,7 +38,7 @@ fn is_thread(tables: &KernelTables, p: Pid) -> bool
 fn is_left(tables: &KernelTables, p: Pid) -> bool
     ensures left { result ≡ not (is_free (state_at tables.now p)) }
 {
-    !matches!(tables.state_of(p), State::Free)
+    !matches!(tables.process(p).state, State::Free)
 }
 
 /// The current process; if that is the null process, the first other one that is left.
@@ -111,7 +111,7 @@ fn push_thread(text: &mut Vec<u8>, tables: &KernelTables, p: Pid) -> Result<(), 
     text.extend_from_slice(b"<thread id='")?;
     push_hex(text, &thread_number(p))?;
     text.extend_from_slice(b"' name='")?;
-    push_name(text, &tables.name_field_of(p))?;
+    push_name(text, &tables.process(p).name)?;
     text.extend_from_slice(b"'>")?;
     push_doing(text, tables, p)?;
     text.extend_from_slice(b"</thread>")?;
@@ -172,7 +172,7 @@ fn push_doing(text: &mut Vec<u8>, tables: &KernelTables, p: Pid) -> Result<(), A
     push_state(text, tables, p)?;
     text.extend_from_slice(b", priority ")?;
     let mut digits = Buffer::new();
-    text.extend_from_slice(digits.format(tables.priority_of(p)).as_bytes())?;
+    text.extend_from_slice(digits.format(tables.process(p).priority).as_bytes())?;
     Ok(())
 }
 
@@ -181,7 +181,7 @@ fn push_state(text: &mut Vec<u8>, tables: &KernelTables, p: Pid) -> Result<(), A
     requires few { tables.now.ticks ≤ 1000000000 }
     ensures appended { OnOk result (text.new.items ≡ text.old.items ++ spec.state_text tables.now p (state_at tables.now p)) }
 {
-    match tables.state_of(p) {
+    match tables.process(p).state {
         State::Free => text.extend_from_slice(b"free")?,
         State::Current => text.extend_from_slice(b"current")?,
         State::Ready => text.extend_from_slice(b"ready")?,

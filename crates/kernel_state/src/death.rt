@@ -15,14 +15,13 @@ impl KernelState {
         ensures killed { self.new.call ≡ killed p self.old.call }
         ensures image { self.new.image ≡ self.old.image }
     {
-        let parent = self.tables.parent_of(p);
-        let (stack, size) = self.tables.stack_of(p);
-        if self.tables.send_to(parent, p.index() as u32) {
+        let process = *self.tables.process(p);
+        if self.tables.send_to(process.parent, p.index() as u32) {
             self.owes_resched = true;
         }
         self.tables.bury(p);
         self.harts[p.index()] = Hart::ZERO;
-        self.heap.freestk(stack, size);
+        self.heap.freestk(process.stack, process.stack_size);
         self.disk.forget(p);
         self.files.forget(p);
     }

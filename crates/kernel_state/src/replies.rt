@@ -13,7 +13,7 @@ ghost use Rattle.xinu_model.specs.Tables.{process_at};
 
 use arrayvec::ArrayVec;
 use kernel_tables::KernelTables;
-use xinu_base::{Hart, Next, Pid};
+use xinu_base::{Hart, Next, Pid, Rest};
 
 /// The replies of one event to released processes, in order.
 pub type Replies = ArrayVec<(Pid, i32), 64>;
@@ -59,7 +59,7 @@ fn answer(replies: &mut Replies, tables: &KernelTables, p: Pid, value: i32)
     ensures replies { replies.new.items ≡ replies.old.items ++ model.reply_at_unblock value p (process_at tables.now p).rest }
     ensures longer { array_vec_len replies.new ≤ array_vec_len replies.old + 1 }
 {
-    if tables.has_finished(p) {
+    if matches!(tables.process(p).rest, Rest::Nothing) {
         replies.push((p, value));
     }
 }

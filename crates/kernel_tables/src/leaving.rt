@@ -82,7 +82,7 @@ fn leave(lists: &mut Lists, procs: &mut Procs, sems: &mut Sems, clock: &mut Cloc
     ensures queues { AreQueues (table.lists lists.new) sems.new.entries }
     ensures fits { Fits (table.lists lists.new) procs.new.processes }
 {
-    match procs.state_of(p) {
+    match procs.process(p).state {
         State::Ready => procs.suspend_ready(lists, p),
         State::Waiting => sems.forget_waiter(lists, p),
         State::Sleeping | State::Timed => clock.cancel(lists, p),

@@ -7,7 +7,7 @@
 //!
 //! | Moves | File |
 //! |---|---|
-//! | what is read: the current process, its rest, states, priorities, names, messages | `tables.rt` |
+//! | what is read: the current process, the entries and messages of processes | `tables.rt` |
 //! | `resched`, `ready`, `suspend_ready`, `keep_reply`, `suspend_self`, `set_priority`, `make`, `bury`, `go_on` | `process_moves.rt` |
 //! | `make_semaphore`, `make_two_semaphores`, `wait`, `signal`, `signaln`, `reset_semaphore`, `delete_semaphore` | `semaphore_moves.rt` |
 //! | `send_to`, `take_message`, `listen`, `listen_for` | `message_moves.rt` |

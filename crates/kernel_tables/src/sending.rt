@@ -90,7 +90,7 @@ fn unsleep(lists: &mut Lists, procs: &Procs, clock: &mut Clock, p: Pid)
 fn is_timed(procs: &Procs, p: Pid) -> bool
     ensures timed { result ≡ is_timed (process_in procs.now.processes p).state }
 {
-    matches!(procs.state_of(p), State::Timed)
+    matches!(procs.process(p).state, State::Timed)
 }
 
 // Puts a word into the slot of `p`, if `p` is alive and holds none.
@@ -98,7 +98,7 @@ fn accept(procs: &Procs, slots: &mut Slots, p: Pid, m: u32) -> bool
     ensures accepts { result ≡ (not (is_free (process_in procs.now.processes p).state) && not (is_some (held slots.old p))) }
     ensures slots { slots.new ≡ (if result then slice_set slots.old p (Some m) else slots.old) }
 {
-    if matches!(procs.state_of(p), State::Free) {
+    if matches!(procs.process(p).state, State::Free) {
         return false;
     }
     slots.send(p, m)
@@ -108,5 +108,5 @@ fn accept(procs: &Procs, slots: &mut Slots, p: Pid, m: u32) -> bool
 fn listens(procs: &Procs, p: Pid) -> bool
     ensures listens { result ≡ model.listens (process_in procs.now.processes p).state }
 {
-    matches!(procs.state_of(p), State::Receiving | State::Timed)
+    matches!(procs.process(p).state, State::Receiving | State::Timed)
 }

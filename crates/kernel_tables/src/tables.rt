@@ -17,7 +17,7 @@ use queue_table::Lists;
 use semaphores::Sems;
 use std::alloc::Global;
 use std::marker::Model;
-use xinu_base::{NoMemory, Pid, Rest, State};
+use xinu_base::{NoMemory, Pid, Process, Rest, State};
 
 /// The tables. A clause sees those of the abstract machine.
 pub struct KernelTables {
@@ -108,7 +108,7 @@ impl KernelTables {
     pub fn is_over(&self) -> bool
         ensures over { result ≡ list_all (λ x. is_free x.state) (drop 1 self.now.processes) }
     {
-        self.procs.alive() == 0
+        self.procs.is_over()
     }
 
     /// The process that a word names. `None` if and only if there is none: the word isn't below 64, or the number is free.
@@ -119,34 +119,18 @@ impl KernelTables {
     {
         let _ = &self.procs;
         let p = Pid::from_word(word)?;
-        if matches!(self.state_of(p), State::Free) {
+        if matches!(self.process(p).state, State::Free) {
             return None;
         }
         Some(p)
     }
 
-    /// What `p` is doing.
+    /// The entry of `p`.
     #[tactic(auto, unfolding(process_core::specs::Tables::tables_of))]
-    pub fn state_of(&self, p: Pid) -> State
-        ensures state { result ≡ state_at self.now p }
+    pub fn process(&self, p: Pid) -> &Process
+        ensures process { result.now ≡ process_at self.now p }
     {
-        self.procs.state_of(p)
-    }
-
-    /// The priority of `p`.
-    #[tactic(auto, unfolding(process_core::specs::Tables::tables_of))]
-    pub fn priority_of(&self, p: Pid) -> i16
-        ensures priority { result ≡ (process_at self.now p).priority }
-    {
-        self.procs.priority_of(p)
-    }
-
-    /// The name of `p` as the table has it, with zeros after its end.
-    #[tactic(auto, unfolding(process_core::specs::Tables::tables_of))]
-    pub fn name_field_of(&self, p: Pid) -> [u8; 15]
-        ensures name { result ≡ (process_at self.now p).name }
-    {
-        self.procs.name_field_of(p)
+        self.procs.process(p)
     }
 
     /// The message that `p` holds.
@@ -157,29 +141,12 @@ impl KernelTables {
         self.slots.peek(p)
     }
 
-    /// The process that made `p`.
-    #[tactic(auto, unfolding(process_core::specs::Tables::tables_of))]
-    pub fn parent_of(&self, p: Pid) -> Pid
-        ensures parent { result ≡ (process_at self.now p).parent }
-    {
-        self.procs.parent_of(p)
-    }
-
-    /// The stack of `p`: the address of its highest word, and its size in bytes.
-    #[tactic(auto, unfolding(process_core::specs::Tables::tables_of))]
-    pub fn stack_of(&self, p: Pid) -> (u32, u32)
-        ensures top { result.0 ≡ (process_at self.now p).stack }
-        ensures size { result.1 ≡ (process_at self.now p).stack_size }
-    {
-        self.procs.stack_of(p)
-    }
-
     /// Whether nothing is left of the current process's call, so that its next step is an instruction.
     #[tactic(auto, unfolding(process_core::specs::Tables::tables_of))]
     pub fn is_done(&self) -> bool
         ensures done { IsTrue result ↔ ((process_at self.now self.now.current).rest ≡ Rest.Nothing) }
     {
-        self.procs.is_done()
+        matches!(self.procs.process(self.procs.current()).rest, Rest::Nothing)
     }
 
     /// What is left of the current process's call.
@@ -187,15 +154,7 @@ impl KernelTables {
     pub fn rest(&self) -> Rest
         ensures rest { result ≡ (process_at self.now self.now.current).rest }
     {
-        self.procs.rest_of(self.procs.current())
-    }
-
-    /// Whether nothing is left of the call of `p`.
-    #[tactic(auto, unfolding(process_core::specs::Tables::tables_of))]
-    pub fn has_finished(&self, p: Pid) -> bool
-        ensures finished { IsTrue result ↔ ((process_at self.now p).rest ≡ Rest.Nothing) }
-    {
-        matches!(self.procs.rest_of(p), Rest::Nothing)
+        self.procs.process(self.procs.current()).rest
     }
 
     /// The free number that the next process gets. `None` if and only if there is none.

@@ -65,15 +65,15 @@ fn print_process<H: Host>(tables: &KernelTables, number: usize, out: &mut Printe
     ensures prints { Prints out.old out.new (H.view host.old) (H.view host.new) (shown out.old.plain (text.process_line number (process_at tables.now number) (message_at tables.now number))) }
 {
     let p = Pid::at(number);
-    let state = tables.state_of(p);
-    if !matches!(state, State::Free) {
+    let process = tables.process(p);
+    if !matches!(process.state, State::Free) {
         let line = TranscriptLine::Process {
             process: p,
-            state,
-            priority: tables.priority_of(p),
-            parent: tables.parent_of(p),
+            state: process.state,
+            priority: process.priority,
+            parent: process.parent,
             message: tables.message_of(p),
-            name: tables.name_field_of(p),
+            name: process.name,
         };
         print_line(&line, out, host);
     }
@@ -85,7 +85,7 @@ fn print_ready<H: Host>(tables: &KernelTables, out: &mut Printer, host: &mut H)
 {
     let mut next = tables.first_ready();
     while let Some(p) = next {
-        print_line(&TranscriptLine::Ready(p, tables.priority_of(p)), out, host);
+        print_line(&TranscriptLine::Ready(p, tables.process(p).priority), out, host);
         next = tables.ready_after(p);
     }
 }

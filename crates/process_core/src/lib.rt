@@ -9,8 +9,9 @@
 //! | Call | Condition | Promise |
 //! |---|---|---|
 //! | `new` | | `starts`: the machine's table at the start; `never`: it isn't refused; `fits`: it fits new lists |
-//! | `current`, `quantum`, `state_of`, `priority_of`, `parent_of`, `name_of`, `name_field_of`, `stack_of`, `rest_of`, `is_running`, `is_done` | | what their names say of the table |
-//! | `alive` | | `count`: the processes but the null process; `over`: 0 if and only if the machine says that none is left |
+//! | `current`, `quantum`, `is_running` | | what their names say of the table |
+//! | `process` | | `process`: the entry of a process |
+//! | `is_over` | | `over`: whether no process is left but the null process |
 //! | `set_rest` | | `procs`: another rest, and nothing else |
 //! | `set_priority` | `fits` | `prioritized`: the machine's `with_priority` |
 //! | `place_free` | | `found`: the number that the machine's search finds; `free`: it is free; `full`: `None` if and only if none is free |

@@ -2,19 +2,18 @@
 //!
 //! It depends on nothing else of the crate. No fact is kept of it: what fits is said of it and the lists together.
 
-ghost use Rattle.std.specs.Prelude.{◌≡◌, ◌<◌, ◌↔◌, ◌==◌, not, IsTrue, IfOk, IfErr, count_by, drop, replicate, []};
+ghost use Rattle.std.specs.Prelude.{◌≡◌, ◌<◌, IfOk, IfErr, drop, replicate, []};
 ghost use Rattle.std.specs.List.{list_all};
 ghost use Rattle.process_core.specs.Fits.{Fits};
 ghost use Rattle.process_core.specs.Starts.{first_table};
 ghost use Rattle.process_core.specs.Tables.{process_in, with_process, with_state};
-ghost use Rattle.xinu_base.specs.Texts as texts;
 ghost use Rattle.xinu_model.specs.Process.Scheduling.{is_current};
 ghost use Rattle.xinu_model.specs.Process.Calls.{is_ready};
 ghost use Rattle.xinu_model.specs.Tables.{is_free, no_process};
 
 use std::alloc::Global;
 use std::marker::Model;
-use xinu_base::{NoMemory, Pid, Process, QUANTUM, Rest, State, before_zero};
+use xinu_base::{NoMemory, Pid, Process, QUANTUM, Rest, State};
 
 /// The entries by process number, who runs now, and for how many ticks it may go on.
 #[derive(Drop)]
@@ -70,64 +69,19 @@ impl Procs {
         self.quantum
     }
 
-    /// How many processes there are but the null process.
-    pub fn alive(&self) -> usize
-        ensures count { result ≡ count_by (λ x. not (is_free x.state)) (drop 1 self.now.processes) }
-        ensures over { (result == 0) ≡ list_all (λ x. is_free x.state) (drop 1 self.now.processes) }
+    /// Whether no process is left but the null process.
+    pub fn is_over(&self) -> bool
+        ensures over { result ≡ list_all (λ x. is_free x.state) (drop 1 self.now.processes) }
     {
         let processes = &self.entries[..];
-        count_alive(&processes[1..])
+        are_free(&processes[1..])
     }
 
-    /// What `p` is doing.
-    pub fn state_of(&self, p: Pid) -> State
-        ensures state { result ≡ (process_in self.now.processes p).state }
+    /// The entry of `p`.
+    pub fn process(&self, p: Pid) -> &Process
+        ensures process { result.now ≡ process_in self.now.processes p }
     {
-        self.entries[p.index()].state
-    }
-
-    /// The priority of `p`.
-    pub fn priority_of(&self, p: Pid) -> i16
-        ensures priority { result ≡ (process_in self.now.processes p).priority }
-    {
-        self.entries[p.index()].priority
-    }
-
-    /// The process that made `p`.
-    pub fn parent_of(&self, p: Pid) -> Pid
-        ensures parent { result ≡ (process_in self.now.processes p).parent }
-    {
-        self.entries[p.index()].parent
-    }
-
-    /// The name of `p`, at most 15 bytes.
-    pub fn name_of(&self, p: Pid) -> &[u8]
-        ensures name { result.now ≡ texts.before_zero (process_in self.now.processes p).name }
-    {
-        before_zero(&self.entries[p.index()].name)
-    }
-
-    /// The name of `p` as the table has it, with zeros after its end.
-    pub fn name_field_of(&self, p: Pid) -> [u8; 15]
-        ensures name { result ≡ (process_in self.now.processes p).name }
-    {
-        self.entries[p.index()].name
-    }
-
-    /// The stack of `p`: the address of its highest word, and its size in bytes.
-    pub fn stack_of(&self, p: Pid) -> (u32, u32)
-        ensures top { result.0 ≡ (process_in self.now.processes p).stack }
-        ensures size { result.1 ≡ (process_in self.now.processes p).stack_size }
-    {
-        let process = &self.entries[p.index()];
-        (process.stack, process.stack_size)
-    }
-
-    /// What is left of the call of `p`.
-    pub fn rest_of(&self, p: Pid) -> Rest
-        ensures rest { result ≡ (process_in self.now.processes p).rest }
-    {
-        self.entries[p.index()].rest
+        &self.entries[p.index()]
     }
 
     /// Whether the current process is in state current: it neither waits nor is suspended or dead.
@@ -135,13 +89,6 @@ impl Procs {
         ensures running { result ≡ is_current (process_in self.now.processes self.now.current).state }
     {
         matches!(self.entries[self.current.index()].state, State::Current)
-    }
-
-    /// Whether nothing is left of the current process's call, so that its next step is an instruction. The rest isn't copied.
-    pub fn is_done(&self) -> bool
-        ensures done { IsTrue result ↔ ((process_in self.now.processes self.now.current).rest ≡ Rest.Nothing) }
-    {
-        matches!(self.entries[self.current.index()].rest, Rest::Nothing)
     }
 
     /// Sets what is left of the call of `p`.
@@ -211,16 +158,14 @@ pub(crate) fn free_entry() -> Process
     }
 }
 
-// How many of these aren't free.
-fn count_alive(processes: &[Process]) -> usize
-    ensures count { result ≡ count_by (λ x. not (is_free x.state)) processes.now }
-    ensures over { (result == 0) ≡ list_all (λ x. is_free x.state) processes.now }
+// Whether the numbers of these are free.
+fn are_free(processes: &[Process]) -> bool
+    ensures free { result ≡ list_all (λ x. is_free x.state) processes.now }
 {
-    let mut count = 0;
     for process in processes {
         if !matches!(process.state, State::Free) {
-            count += 1;
+            return false;
         }
     }
-    count
+    true
 }

@@ -52,7 +52,7 @@ impl Procs {
         ensures others { (q : ℕ) → q ≢ 128 → list_at (table.lists lists.new) q ≡ list_at (table.lists lists.old) q }
         ensures fits { Fits (table.lists lists.new) self.new.processes }
     {
-        let priority = self.priority_of(p);
+        let priority = self.process(p).priority;
         self.set_state(p, State::Ready);
         lists.insert(p.index(), READY, i32::from(priority));
     }
@@ -129,7 +129,7 @@ impl Procs {
     fn is_above(&self, key: i32) -> bool
         ensures above { result ≡ int_lt key (process_in self.now.processes self.now.current).priority }
     {
-        key < i32::from(self.priority_of(self.current()))
+        key < i32::from(self.process(self.current()).priority)
     }
 
     // The first ready process becomes the current one, with a fresh quantum. `None` if the ready list is empty.
