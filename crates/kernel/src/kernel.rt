@@ -125,14 +125,14 @@ impl Kernel {
     pub fn current(&self) -> Pid
         ensures current { result ≡ self.now.came.call.state.tables.current }
     {
-        self.state.current()
+        self.state.tables.current()
     }
 
     /// Whether nothing is left of the current process's call, so that its next step is an instruction.
     pub fn is_done(&self) -> bool
         ensures done { IsTrue result ↔ ((process_at self.now.came.call.state.tables self.now.came.call.state.tables.current).rest ≡ Rest.Nothing) }
     {
-        self.state.is_done()
+        self.state.tables.is_done()
     }
 
     /// The call that the current process's registers ask for.

@@ -30,10 +30,10 @@ impl Kernel {
         ensures most { result ≤ most }
         ensures image { self.new.image ≡ self.old.image }
     {
-        if self.state.current() == Pid::default() {
+        if self.state.tables.current() == Pid::default() {
             return most;
         }
-        if !self.state.is_done() {
+        if !self.state.tables.is_done() {
             return 0;
         }
         instructions(&mut self.state, most)
