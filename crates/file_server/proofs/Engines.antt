@@ -8,7 +8,7 @@ use Rattle.local_files.specs.declared.Files.{Files}
 use Rattle.local_files.specs.declared.FileCall.{FileCall}
 use Rattle.local_files.specs.declared.BlockWork.{BlockWork}
 use Rattle.local_files.specs.declared.Phase.{Phase}
-use Rattle.local_files.specs.declared.Phase.TheVariants.{Idle, Done, Search, Walk, Fetch, Counts, Reach, PatchRead, PatchWrite, TakeRead, TakeWrite, AddRead, AddWrite, NewRead, NewWrite, LinkRead, LinkWrite, CutRead, CutWrite, FreeWrite, EntryRead, EntryWrite, HeaderRead, HeaderWrite}
+use Rattle.local_files.specs.declared.Phase.TheVariants.{Idle, Done, Wants}
 use Rattle.xinu_model.specs.Files.Calls as model
 use Rattle.xinu_model.specs.Files.Work.{most_turns}
 use Rattle.local_files.specs.Bounds.{left}
@@ -33,70 +33,7 @@ still : (p : Phase) (call : FileCall) (bytes : List ℕ) (old new : Files) (base
     → GoesTo p call bytes old new base disk → IsStill call bytes old new base disk
 still Idle call bytes old new base disk is none g = absurd g
 still (Done r) call bytes old new base disk is none g = absurd (cc (none))
-still (Search d) call bytes old new base disk is none g =
-    let P : Phase → Type 0 = λ p. IsSome (wanted_in p new) in
-    record { stands = g.0; call_is = g.1; bytes_is = g.2; system_is = g.3; busy = subst P (sym is) refl }
-still (Walk rest at) call bytes old new base disk is none g =
-    let P : Phase → Type 0 = λ p. IsSome (wanted_in p new) in
-    record { stands = g.0; call_is = g.1; bytes_is = g.2; system_is = g.3; busy = subst P (sym is) refl }
-still (Fetch b) call bytes old new base disk is none g =
-    let P : Phase → Type 0 = λ p. IsSome (wanted_in p new) in
-    record { stands = g.0; call_is = g.1; bytes_is = g.2; system_is = g.3; busy = subst P (sym is) refl }
-still Counts call bytes old new base disk is none g =
-    let P : Phase → Type 0 = λ p. IsSome (wanted_in p new) in
-    record { stands = g.0; call_is = g.1; bytes_is = g.2; system_is = g.3; busy = subst P (sym is) refl }
-still (Reach rest at) call bytes old new base disk is none g =
-    let P : Phase → Type 0 = λ p. IsSome (wanted_in p new) in
-    record { stands = g.0; call_is = g.1; bytes_is = g.2; system_is = g.3; busy = subst P (sym is) refl }
-still (PatchRead b) call bytes old new base disk is none g =
-    let P : Phase → Type 0 = λ p. IsSome (wanted_in p new) in
-    record { stands = g.0; call_is = g.1; bytes_is = g.2; system_is = g.3; busy = subst P (sym is) refl }
-still (PatchWrite b) call bytes old new base disk is none g =
-    let P : Phase → Type 0 = λ p. IsSome (wanted_in p new) in
-    record { stands = g.0; call_is = g.1; bytes_is = g.2; system_is = g.3; busy = subst P (sym is) refl }
-still (TakeRead b) call bytes old new base disk is none g =
-    let P : Phase → Type 0 = λ p. IsSome (wanted_in p new) in
-    record { stands = g.0; call_is = g.1; bytes_is = g.2; system_is = g.3; busy = subst P (sym is) refl }
-still (TakeWrite b) call bytes old new base disk is none g =
-    let P : Phase → Type 0 = λ p. IsSome (wanted_in p new) in
-    record { stands = g.0; call_is = g.1; bytes_is = g.2; system_is = g.3; busy = subst P (sym is) refl }
-still (AddRead b) call bytes old new base disk is none g =
-    let P : Phase → Type 0 = λ p. IsSome (wanted_in p new) in
-    record { stands = g.0; call_is = g.1; bytes_is = g.2; system_is = g.3; busy = subst P (sym is) refl }
-still (AddWrite b) call bytes old new base disk is none g =
-    let P : Phase → Type 0 = λ p. IsSome (wanted_in p new) in
-    record { stands = g.0; call_is = g.1; bytes_is = g.2; system_is = g.3; busy = subst P (sym is) refl }
-still (NewRead b i) call bytes old new base disk is none g =
-    let P : Phase → Type 0 = λ p. IsSome (wanted_in p new) in
-    record { stands = g.0; call_is = g.1; bytes_is = g.2; system_is = g.3; busy = subst P (sym is) refl }
-still (NewWrite b i) call bytes old new base disk is none g =
-    let P : Phase → Type 0 = λ p. IsSome (wanted_in p new) in
-    record { stands = g.0; call_is = g.1; bytes_is = g.2; system_is = g.3; busy = subst P (sym is) refl }
-still (LinkRead b i) call bytes old new base disk is none g =
-    let P : Phase → Type 0 = λ p. IsSome (wanted_in p new) in
-    record { stands = g.0; call_is = g.1; bytes_is = g.2; system_is = g.3; busy = subst P (sym is) refl }
-still (LinkWrite b i) call bytes old new base disk is none g =
-    let P : Phase → Type 0 = λ p. IsSome (wanted_in p new) in
-    record { stands = g.0; call_is = g.1; bytes_is = g.2; system_is = g.3; busy = subst P (sym is) refl }
-still CutRead call bytes old new base disk is none g =
-    let P : Phase → Type 0 = λ p. IsSome (wanted_in p new) in
-    record { stands = g.0; call_is = g.1; bytes_is = g.2; system_is = g.3; busy = subst P (sym is) refl }
-still CutWrite call bytes old new base disk is none g =
-    let P : Phase → Type 0 = λ p. IsSome (wanted_in p new) in
-    record { stands = g.0; call_is = g.1; bytes_is = g.2; system_is = g.3; busy = subst P (sym is) refl }
-still (FreeWrite b) call bytes old new base disk is none g =
-    let P : Phase → Type 0 = λ p. IsSome (wanted_in p new) in
-    record { stands = g.0; call_is = g.1; bytes_is = g.2; system_is = g.3; busy = subst P (sym is) refl }
-still EntryRead call bytes old new base disk is none g =
-    let P : Phase → Type 0 = λ p. IsSome (wanted_in p new) in
-    record { stands = g.0; call_is = g.1; bytes_is = g.2; system_is = g.3; busy = subst P (sym is) refl }
-still EntryWrite call bytes old new base disk is none g =
-    let P : Phase → Type 0 = λ p. IsSome (wanted_in p new) in
-    record { stands = g.0; call_is = g.1; bytes_is = g.2; system_is = g.3; busy = subst P (sym is) refl }
-still HeaderRead call bytes old new base disk is none g =
-    let P : Phase → Type 0 = λ p. IsSome (wanted_in p new) in
-    record { stands = g.0; call_is = g.1; bytes_is = g.2; system_is = g.3; busy = subst P (sym is) refl }
-still HeaderWrite call bytes old new base disk is none g =
+still (Wants purpose) call bytes old new base disk is none g =
     let P : Phase → Type 0 = λ p. IsSome (wanted_in p new) in
     record { stands = g.0; call_is = g.1; bytes_is = g.2; system_is = g.3; busy = subst P (sym is) refl }
 
@@ -108,28 +45,7 @@ still_stands new call bytes old base disk none g = (still new.phase call bytes o
 pub kept_in : (p : Phase) (e : Files) → reply_in p ≡ None → taken_in p e ≡ e
 kept_in Idle e none = refl
 kept_in (Done r) e none = absurd (cc (none))
-kept_in (Search d) e none = refl
-kept_in (Walk rest at) e none = refl
-kept_in (Fetch b) e none = refl
-kept_in Counts e none = refl
-kept_in (Reach rest at) e none = refl
-kept_in (PatchRead b) e none = refl
-kept_in (PatchWrite b) e none = refl
-kept_in (TakeRead b) e none = refl
-kept_in (TakeWrite b) e none = refl
-kept_in (AddRead b) e none = refl
-kept_in (AddWrite b) e none = refl
-kept_in (NewRead b i) e none = refl
-kept_in (NewWrite b i) e none = refl
-kept_in (LinkRead b i) e none = refl
-kept_in (LinkWrite b i) e none = refl
-kept_in CutRead e none = refl
-kept_in CutWrite e none = refl
-kept_in (FreeWrite b) e none = refl
-kept_in EntryRead e none = refl
-kept_in EntryWrite e none = refl
-kept_in HeaderRead e none = refl
-kept_in HeaderWrite e none = refl
+kept_in (Wants purpose) e none = refl
 
 -- one that has its reply had its effect, and the engine is idle once the answer is taken
 pub record IsOver (call : FileCall) (bytes : List ℕ) (old new : Files) (reply : ℤ) (base disk : List ℕ) : Type 0 where
@@ -146,37 +62,15 @@ over Idle call bytes old new reply base disk is some g = absurd g
 over (Done r) call bytes old new reply base disk is some g =
     let idle : Files = record new { phase = Idle } in
     let taken : taken_in new.phase new ≡ idle = ap (λ p. taken_in p new) is in
-    let s = g.1 in
     let P : Files → Type 0 = λ x. HasEffect call bytes (system old base) reply (gathered x) (system x disk) in
     let Q : Files → Type 0 = λ x. Stands x disk disk in
     let R : ℤ → Type 0 = λ z. HasEffect call bytes (system old base) z (gathered new) (system new disk) in
     record {
       effect = subst P (sym taken) (subst R (same_reply r reply some) g.0);
-      stands = subst Q (sym taken) (record { clean = s.clean; blocks = s.blocks; whole = s.whole; six = s.six; outgoing = s.outgoing; buffer = s.buffer; device = s.device; apart = s.apart; hand = refl });
+      stands = subst Q (sym taken) (record { standing = g.1.standing; hand = refl });
       idle = ap (λ x. x.phase) taken;
     }
-over (Search d) call bytes old new reply base disk is some g = absurd (cc (some))
-over (Walk rest at) call bytes old new reply base disk is some g = absurd (cc (some))
-over (Fetch b) call bytes old new reply base disk is some g = absurd (cc (some))
-over Counts call bytes old new reply base disk is some g = absurd (cc (some))
-over (Reach rest at) call bytes old new reply base disk is some g = absurd (cc (some))
-over (PatchRead b) call bytes old new reply base disk is some g = absurd (cc (some))
-over (PatchWrite b) call bytes old new reply base disk is some g = absurd (cc (some))
-over (TakeRead b) call bytes old new reply base disk is some g = absurd (cc (some))
-over (TakeWrite b) call bytes old new reply base disk is some g = absurd (cc (some))
-over (AddRead b) call bytes old new reply base disk is some g = absurd (cc (some))
-over (AddWrite b) call bytes old new reply base disk is some g = absurd (cc (some))
-over (NewRead b i) call bytes old new reply base disk is some g = absurd (cc (some))
-over (NewWrite b i) call bytes old new reply base disk is some g = absurd (cc (some))
-over (LinkRead b i) call bytes old new reply base disk is some g = absurd (cc (some))
-over (LinkWrite b i) call bytes old new reply base disk is some g = absurd (cc (some))
-over CutRead call bytes old new reply base disk is some g = absurd (cc (some))
-over CutWrite call bytes old new reply base disk is some g = absurd (cc (some))
-over (FreeWrite b) call bytes old new reply base disk is some g = absurd (cc (some))
-over EntryRead call bytes old new reply base disk is some g = absurd (cc (some))
-over EntryWrite call bytes old new reply base disk is some g = absurd (cc (some))
-over HeaderRead call bytes old new reply base disk is some g = absurd (cc (some))
-over HeaderWrite call bytes old new reply base disk is some g = absurd (cc (some))
+over (Wants purpose) call bytes old new reply base disk is some g = absurd (cc (some))
 
 pub over_stands : (new : Files) (call : FileCall) (bytes : List ℕ) (old : Files) (reply : ℤ) (base disk : List ℕ) → Some reply ≡ reply_in new.phase
     → GoesTo new.phase call bytes old new base disk
@@ -193,28 +87,7 @@ quiet_in : (p : Phase) (e : Files) (base disk : List ℕ) → e.phase ≡ p → 
     → InHand p e base disk → IsQuiet e base disk
 quiet_in Idle e base disk is none free h = record { idle = is; same = h }
 quiet_in (Done r) e base disk is none free h = absurd (cc (none))
-quiet_in (Search d) e base disk is none free h = absurd (cc (free))
-quiet_in (Walk rest at) e base disk is none free h = absurd (cc (free))
-quiet_in (Fetch b) e base disk is none free h = absurd (cc (free))
-quiet_in Counts e base disk is none free h = absurd (cc (free))
-quiet_in (Reach rest at) e base disk is none free h = absurd (cc (free))
-quiet_in (PatchRead b) e base disk is none free h = absurd (cc (free))
-quiet_in (PatchWrite b) e base disk is none free h = absurd (cc (free))
-quiet_in (TakeRead b) e base disk is none free h = absurd (cc (free))
-quiet_in (TakeWrite b) e base disk is none free h = absurd (cc (free))
-quiet_in (AddRead b) e base disk is none free h = absurd (cc (free))
-quiet_in (AddWrite b) e base disk is none free h = absurd (cc (free))
-quiet_in (NewRead b i) e base disk is none free h = absurd (cc (free))
-quiet_in (NewWrite b i) e base disk is none free h = absurd (cc (free))
-quiet_in (LinkRead b i) e base disk is none free h = absurd (cc (free))
-quiet_in (LinkWrite b i) e base disk is none free h = absurd (cc (free))
-quiet_in CutRead e base disk is none free h = absurd (cc (free))
-quiet_in CutWrite e base disk is none free h = absurd (cc (free))
-quiet_in (FreeWrite b) e base disk is none free h = absurd (cc (free))
-quiet_in EntryRead e base disk is none free h = absurd (cc (free))
-quiet_in EntryWrite e base disk is none free h = absurd (cc (free))
-quiet_in HeaderRead e base disk is none free h = absurd (cc (free))
-quiet_in HeaderWrite e base disk is none free h = absurd (cc (free))
+quiet_in (Wants purpose) e base disk is none free h = absurd (cc (free))
 
 pub quiet : (e : Files) (base disk : List ℕ) → Stands e base disk → reply_in e.phase ≡ None → held_for (wanted e) e base ≡ None
     → IsQuiet e base disk

@@ -7,11 +7,10 @@ use Rattle.lfs_check.specs.Disks.{block_put, entry_at, entries}
 use Rattle.file_laws.specs.StoredFiles.{entry_bytes}
 use Rattle.local_files.specs.declared.Files.{Files}
 use Rattle.local_files.specs.declared.Phase.{Phase}
-use Rattle.local_files.specs.declared.Phase.TheVariants.{AddWrite}
 use Rattle.local_files.specs.Hands.{put_bytes}
 use Rattle.local_files.specs.Putting.{IsPutting, IsAt, IsAddWrite}
 use Rattle.local_files.specs.Steps.{at_byte, piece}
-use Rattle.local_files.specs.Standing.{Stands, InHand, GoesTo, call_bytes}
+use Rattle.local_files.specs.Standing.{Stands, InHand, GoesTo, call_bytes, IsStanding}
 use Rattle.local_files.proofs.Closings.{put_whole}
 use Rattle.xinu_model.specs.Files.Writing.{overwritten}
 use Rattle.std.proofs.Common.{◌-◌, ◌*◌, drop, replicate, length-append}
@@ -25,13 +24,15 @@ use Rattle.file_laws.specs.Changing.{IsReadBy}
 use Rattle.file_laws.proofs.Reached.{middle_read}
 use Rattle.local_files.proofs.Closings.{put_whole}
 use Rattle.file_laws.proofs.Rewritten.{entry_count}
-use Rattle.local_files.proofs.Freeing.{IsStanding, standing, number_at, null_at}
+use Rattle.local_files.proofs.Freeing.{number_at, null_at}
 use Rattle.std.proofs.lemmas.List.{length-replicate, take_all, drop_all, append-nil}
 use Rattle.file_laws.proofs.Patched.{middle_sized, middle_appended}
 use Rattle.local_files.specs.Puts.{at_end, next_put, put_done, added_index, with_index}
 use Rattle.local_files.proofs.Putting.{where_put}
 use Rattle.local_files.proofs.PutSteps.{ends_is, target_end}
 use Rattle.local_files.proofs.Pieces.{piece_is, piece_bytes, after_goes, piece_more, done_long, low_old}
+use Rattle.local_files.specs.declared.Phase.TheVariants.{Wants}
+use Rattle.local_files.specs.declared.Purpose.TheVariants.{AddWrite}
 
 -- lists that are the same at each place
 same_at : (xs ys : List ℕ) → length xs ≡ length ys → ((k : ℕ) → k < length xs → slice_index xs k ≡ slice_index ys k) → xs ≡ ys
@@ -130,14 +131,14 @@ slot_lists n base disk header slot entry p bytes m =
     (omega (arith, count, s, t, c), omega (arith, count, s, t, d))
 
 -- The number is written.
-pub add_written_goes : (e e' : Files) (b : ℕ) (base disk : List ℕ) → e.phase ≡ AddWrite b
+pub add_written_goes : (e e' : Files) (b : ℕ) (base disk : List ℕ) → e.phase ≡ Wants (AddWrite b)
     → e' ≡ next_put (put_done (with_index (added_index b e) e)) → Stands e base disk
     → GoesTo e'.phase e.call (call_bytes e) e e' base (block_put disk (6 + e.at / 7) e.block)
 add_written_goes e e' b base disk phase new s =
     let H : Phase → Type 0 = λ p. InHand p e base disk in
     let h : IsAddWrite e b base disk = subst H phase s.hand in
     let k = h.filled.taken in let p = k.places in let u = k.putting in
-    let st = standing e base disk s in
+    let st = s.standing in
     let g = growing e base disk p st u k.left k.ends in
     let f = piece_is e base disk p st u k.left in
     let chain = numbers_at p.chains e.slot in let blocks = numbers_at p.datas e.slot in

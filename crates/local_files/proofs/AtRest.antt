@@ -22,13 +22,14 @@ use Rattle.local_files.specs.declared.Files.{Files}
 use Rattle.local_files.specs.declared.FileCall.{FileCall}
 use Rattle.local_files.specs.declared.FileCall.TheVariants.{Open, Delete, Close, Read, Write, Getc, Putc, Seek, Truncate, Size}
 use Rattle.local_files.specs.declared.Phase.{Phase}
-use Rattle.local_files.specs.declared.Phase.TheVariants.{Idle, Done, Search, Walk, Fetch, Counts, Reach, PatchRead, PatchWrite, TakeRead, TakeWrite, AddRead, AddWrite, NewRead, NewWrite, LinkRead, LinkWrite, CutRead, CutWrite, FreeWrite, EntryRead, EntryWrite, HeaderRead, HeaderWrite}
 use Rattle.local_files.specs.Hands.{system, put_bytes, name_of, IsEnding, IsCutFor, IsCutting, HoldsOthers, name_in_hand}
 use Rattle.local_files.specs.Putting.{IsPutting}
 use Rattle.local_files.specs.Steps.{shown, device_at, device_of}
 use Rattle.local_files.specs.Standing.{Stands, InHand, call_of, wanted, wanted_in, call_bytes}
 use Rattle.local_files.specs.Resting.{AreAtRest, IsFirstCall}
 use Rattle.local_files.proofs.Devices.{device_some}
+use Rattle.local_files.specs.declared.Phase.TheVariants.{Idle, Done, Wants}
+use Rattle.local_files.specs.declared.Purpose.TheVariants.{Search, Walk, Fetch, Counts, Reach, PatchRead, PatchWrite, TakeRead, TakeWrite, AddRead, AddWrite, NewRead, NewWrite, LinkRead, LinkWrite, CutRead, CutWrite, FreeWrite, EntryRead, EntryWrite, HeaderRead, HeaderWrite}
 
 -- a name that isn't at rest
 not_resting : (b : Bool) → (b ≡ true → ⊥) → b ≡ false
@@ -164,28 +165,28 @@ held_always e base disk rests s a = by_phase e.phase refl s.hand
     by_phase : (p : Phase) → e.phase ≡ p → InHand p e base disk → Holds disk (stored_files base) rests
     by_phase Idle is h = still h
     by_phase (Done r) is h = still h
-    by_phase (Search d) is h = still h.same
-    by_phase (Walk rest at) is h = still h.reading.same
-    by_phase (Fetch b) is h = still h.reading.same
-    by_phase Counts is h = still h.same
-    by_phase (Reach rest at) is h = puts h.ready.places h.ready.putting
-    by_phase (PatchRead b) is h = puts h.ready.places h.ready.putting
-    by_phase (PatchWrite b) is h = puts h.patch.ready.places h.patch.ready.putting
-    by_phase (TakeRead b) is h = puts h.ready.places h.ready.putting
-    by_phase (TakeWrite b) is h = puts h.taken.places h.taken.putting
-    by_phase (AddRead b) is h = puts h.0.taken.places h.0.taken.putting
-    by_phase (AddWrite b) is h = puts h.filled.taken.places h.filled.taken.putting
-    by_phase (NewRead b i) is h = puts h.0.taken.places h.0.taken.putting
-    by_phase (NewWrite b i) is h = puts h.new.places h.new.putting
-    by_phase (LinkRead b i) is h = puts h.new.places h.new.putting
-    by_phase (LinkWrite b i) is h = puts h.link.new.places h.link.new.putting
-    by_phase CutRead is h = cuts CutRead (16 * e.reached) is refl h.cutting
-    by_phase CutWrite is h = cuts CutWrite (16 * e.reached) is refl h.read.cutting
-    by_phase (FreeWrite b) is h = cuts (FreeWrite b) (16 * (e.reached - 1) + e.freed) is refl h.cutting
-    by_phase EntryRead is h = ends EntryRead is refl h.ending h.held
-    by_phase EntryWrite is h = ends EntryWrite is refl h.ending h.held
-    by_phase HeaderRead is h = ends HeaderRead is refl h.ending h.held
-    by_phase HeaderWrite is h = ends HeaderWrite is refl h.ending h.held
+    by_phase (Wants (Search d)) is h = still h.same
+    by_phase (Wants (Walk rest at)) is h = still h.reading.same
+    by_phase (Wants (Fetch b)) is h = still h.reading.same
+    by_phase (Wants Counts) is h = still h.same
+    by_phase (Wants (Reach rest at)) is h = puts h.ready.places h.ready.putting
+    by_phase (Wants (PatchRead b)) is h = puts h.ready.places h.ready.putting
+    by_phase (Wants (PatchWrite b)) is h = puts h.patch.ready.places h.patch.ready.putting
+    by_phase (Wants (TakeRead b)) is h = puts h.ready.places h.ready.putting
+    by_phase (Wants (TakeWrite b)) is h = puts h.taken.places h.taken.putting
+    by_phase (Wants (AddRead b)) is h = puts h.0.taken.places h.0.taken.putting
+    by_phase (Wants (AddWrite b)) is h = puts h.filled.taken.places h.filled.taken.putting
+    by_phase (Wants (NewRead b i)) is h = puts h.0.taken.places h.0.taken.putting
+    by_phase (Wants (NewWrite b i)) is h = puts h.new.places h.new.putting
+    by_phase (Wants (LinkRead b i)) is h = puts h.new.places h.new.putting
+    by_phase (Wants (LinkWrite b i)) is h = puts h.link.new.places h.link.new.putting
+    by_phase (Wants CutRead) is h = cuts (Wants CutRead) (16 * e.reached) is refl h.cutting
+    by_phase (Wants CutWrite) is h = cuts (Wants CutWrite) (16 * e.reached) is refl h.read.cutting
+    by_phase (Wants (FreeWrite b)) is h = cuts (Wants (FreeWrite b)) (16 * (e.reached - 1) + e.freed) is refl h.cutting
+    by_phase (Wants EntryRead) is h = ends (Wants EntryRead) is refl h.ending h.held
+    by_phase (Wants EntryWrite) is h = ends (Wants EntryWrite) is refl h.ending h.held
+    by_phase (Wants HeaderRead) is h = ends (Wants HeaderRead) is refl h.ending h.held
+    by_phase (Wants HeaderWrite) is h = ends (Wants HeaderWrite) is refl h.ending h.held
 
 -- a call names a file whatever bytes it has
 names_same : (name : List ℕ) (call : FileCall) (a b : List ℕ) → names_file name (call_of call a) ≡ names_file name (call_of call b)

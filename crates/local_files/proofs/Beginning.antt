@@ -23,6 +23,7 @@ use Rattle.local_files.specs.Opens.{closing, seeking, seeking_in, sizing, beginn
 use Rattle.local_files.proofs.Devices.{apart_moved, shown_at, shown_set, some_below, device_some, open_size, is_open_same, answered_stands, set_stands, apart_none}
 use Rattle.xinu_model.specs.Files.Systems as systems
 use Rattle.file_laws.proofs.Counted.{entry_small}
+use Rattle.local_files.proofs.Standing.{at_base}
 
 -- `close`
 pub close_goes : (e : Files) (d : ℕ) (bytes disk : List ℕ) → Stands e disk disk
@@ -127,14 +128,7 @@ size_goes e d bytes disk s = by_device (device_at e d) refl
 look_stands : (e : Files) (call : FileCall) (disk : List ℕ) → IsCall call → MayLook call (system e disk) → Stands e disk disk
     → Stands (looking call e) disk disk
 look_stands e call disk right look s = record {
-  clean = s.clean;
-  blocks = s.blocks;
-  whole = refl;
-  six = s.six;
-  buffer = s.buffer;
-  outgoing = s.outgoing;
-  device = s.device;
-  apart = s.apart;
+  standing = at_base s.standing;
   hand = record {
     same = refl;
     block = omega arith;

@@ -12,9 +12,9 @@ use Rattle.local_files.specs.declared.Files.{Files}
 use Rattle.local_files.specs.declared.FileCall.{FileCall}
 use Rattle.local_files.specs.declared.FileCall.TheVariants.{Open, Delete, Read, Write, Getc, Putc, Truncate}
 use Rattle.local_files.specs.Hands.{system}
-use Rattle.local_files.specs.Steps.{shown, device_at, answered, with_device, moved_to, lowest_free, is_truncate}
+use Rattle.local_files.specs.Steps.{shown, device_at, answered, with_device, moved_to, lowest_free, is_truncate, going_on}
 use Rattle.local_files.specs.Standing.{Stands, call_of, given_bytes}
-use Rattle.local_files.specs.Takes.{walking, reading_at}
+use Rattle.local_files.specs.Takes.{reading_at}
 use Rattle.local_files.specs.Cuts.{truncating_at, held_file}
 use Rattle.local_files.specs.Puts.{writing_at}
 use Rattle.local_files.specs.Opens.{closing, seeking, sizing, beginning, deleting, looking}
@@ -22,6 +22,7 @@ use Rattle.local_files.specs.Buffers.{put_at}
 use Rattle.local_files.specs.Bounds.{left, cut_left, put_left}
 use Rattle.local_files.proofs.Devices.{shown_at, device_some, open_size}
 use Rattle.local_files.proofs.Falls.{below_if, walking_less}
+use Rattle.local_files.specs.declared.Purpose.TheVariants.{Walk}
 
 -- what a call may have left
 abbrev pub Within : Files → FileCall → List ℕ → Files → List ℕ → Type 0
@@ -100,11 +101,11 @@ reads_less e call d n m disk s most = by_device (device_at e d) refl
     by_device (Some f) at =
         let bound = most f at in
         let x : Files = record e { call = call; position = f.position; total = min n (f.entry.size - f.position); done = 0 } in
-        let last = if nat_le f.entry.size f.position then answered (negsuc 1) e else walking (f.position / 8192) f.entry.first x in
+        let last = if nat_le f.entry.size f.position then answered (negsuc 1) e else going_on (Walk (f.position / 8192) f.entry.first) x in
         let mid = if n == 0 then answered (pos 0) e else last in
         below_if (not f.read) (answered (negsuc 0) e) mid disk (suc m) (λ _. omega arith)
         (λ _. below_if (n == 0) (answered (pos 0) e) last disk (suc m) (λ _. omega arith)
-        (λ _. below_if (nat_le f.entry.size f.position) (answered (negsuc 1) e) (walking (f.position / 8192) f.entry.first x) disk (suc m)
+        (λ _. below_if (nat_le f.entry.size f.position) (answered (negsuc 1) e) (going_on (Walk (f.position / 8192) f.entry.first) x) disk (suc m)
         (λ _. omega arith)
         (λ t. walking_less (f.position / 8192) f.entry.first x disk (suc m)
         (let lt : f.position < f.entry.size = grind (arith, nat_tests) in omega (arith, bound, lt)))))

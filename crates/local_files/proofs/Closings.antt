@@ -22,7 +22,6 @@ use Rattle.local_files.specs.declared.Files.{Files}
 use Rattle.local_files.specs.declared.FileCall.{FileCall}
 use Rattle.local_files.specs.declared.FileCall.TheVariants.{Open, Delete, Close, Read, Write, Getc, Putc, Seek, Truncate, Size}
 use Rattle.local_files.specs.declared.Phase.{Phase}
-use Rattle.local_files.specs.declared.Phase.TheVariants.{EntryWrite, HeaderRead, HeaderWrite, EntryRead}
 use Rattle.local_files.specs.Hands.{system, IsEnding, IsMade, IsDevice, IsOpenOn, AreApart, IsCall, IsWritten, IsCreating, IsClosing, IsEntryWrite, IsHeaderRead, IsEntryBlock, IsHeaderBlock, files_after, MayLook, name_of}
 use Rattle.local_files.specs.Steps.{device_at, answered, lowest_free, shown}
 use Rattle.local_files.specs.Standing.{Stands, InHand, GoesTo, call_bytes}
@@ -34,6 +33,9 @@ use Rattle.xinu_model.specs.Files.Opening as model_opening
 use Rattle.local_files.specs.Standing as engine
 use Rattle.local_files.specs.Opens.{opening as opening_file}
 use Rattle.lfs_format.specs.Directory.{dir_of, IsDirBlock}
+use Rattle.local_files.proofs.Standing.{on_made, with_block, with_disk}
+use Rattle.local_files.specs.declared.Phase.TheVariants.{Wants}
+use Rattle.local_files.specs.declared.Purpose.TheVariants.{EntryRead, EntryWrite, HeaderRead, HeaderWrite}
 
 -- how many blocks there are
 pub blocks_many : (e : Files) (base disk : List ℕ) → Stands e base disk → (14 ≤ e.blocks) × (length disk ≡ 512 * e.blocks)
@@ -121,32 +123,25 @@ pub put_whole : (e : Files) (base disk : List ℕ) (n : ℕ) → Stands e base d
 put_whole e base disk n s h = length_put disk n e.blocks e.block (blocks_many e base disk s).1 h s.outgoing ∙ s.whole
 
 -- the directory block of the entry was read
-pub put_entry_goes : (e e' : Files) (base disk read : List ℕ) → e.phase ≡ EntryRead → e' ≡ record e { phase = EntryWrite; block = e'.block }
+pub put_entry_goes : (e e' : Files) (base disk read : List ℕ) → e.phase ≡ Wants EntryRead → e' ≡ record e { phase = Wants EntryWrite; block = e'.block }
     → IsDirBlock (dir_with_entry (dir_of read) (e.slot % 13) e.entry) e'.block → Stands e base disk → read ≡ block_in disk (e.slot / 13)
     → GoesTo e'.phase e.call (call_bytes e) e e' base disk
 put_entry_goes e e' base disk read phase new put s honest =
     let H : Phase → Type 0 = λ p. InHand p e base disk in
     let hand : IsClosing e base disk = subst H phase s.hand in
-    let n : Files = record e { phase = EntryWrite; block = e'.block } in
+    let n : Files = record e { phase = Wants EntryWrite; block = e'.block } in
     let R : List ℕ → Type 0 = λ b. IsDirBlock (dir_with_entry (dir_of b) (e.slot % 13) e.entry) e'.block in
     let block : IsEntryBlock e disk e'.block = subst R honest put in
     let P : Files → Type 0 = λ x. GoesTo x.phase e.call (call_bytes e) e x base disk in
     subst P (sym new) (
       record {
-        clean = s.clean;
-        blocks = s.blocks;
-        whole = s.whole;
-        six = s.six;
-        buffer = s.buffer;
-        outgoing = block.long;
-        device = s.device;
-        apart = s.apart;
+        standing = with_block s.standing block.long;
         hand = record {
-          ending = ending_kept e.call e EntryWrite e'.block base hand.ending;
+          ending = ending_kept e.call e (Wants EntryWrite) e'.block base hand.ending;
           slot = hand.slot;
           held = hand.held;
           next = hand.next e'.block block;
-          made = λ hb q. made_same e EntryWrite e'.block base (block_put (block_put disk (e.slot / 13) e'.block) 0 hb)
+          made = λ hb q. made_same e (Wants EntryWrite) e'.block base (block_put (block_put disk (e.slot / 13) e'.block) 0 hb)
               (hand.made e'.block hb block q);
         };
       },
@@ -156,10 +151,10 @@ put_entry_goes e e' base disk read phase new put s honest =
     )
 
 -- it is written
-pub entry_written_goes : (e e' : Files) (base disk : List ℕ) → e.phase ≡ EntryWrite → e' ≡ record e { phase = HeaderRead }
+pub entry_written_goes : (e e' : Files) (base disk : List ℕ) → e.phase ≡ Wants EntryWrite → e' ≡ record e { phase = Wants HeaderRead }
     → Stands e base disk → GoesTo e'.phase e.call (call_bytes e) e e' base (block_put disk (e.slot / 13) e.block)
 entry_written_goes e e' base disk phase new s =
-    let n : Files = record e { phase = HeaderRead } in
+    let n : Files = record e { phase = Wants HeaderRead } in
     let H : Phase → Type 0 = λ p. InHand p e base disk in
     let hand : IsEntryWrite e base disk = subst H phase s.hand in
     let many = blocks_many e base disk s in
@@ -168,19 +163,12 @@ entry_written_goes e e' base disk phase new s =
     let P : Files → Type 0 = λ x. GoesTo x.phase e.call (call_bytes e) e x base after in
     subst P (sym new) (
       record {
-        clean = s.clean;
-        blocks = s.blocks;
-        whole = put_whole e base disk (e.slot / 13) s at;
-        six = s.six;
-        buffer = s.buffer;
-        outgoing = s.outgoing;
-        device = s.device;
-        apart = s.apart;
+        standing = with_disk s.standing (put_whole e base disk (e.slot / 13) s at);
         hand = record {
-          ending = ending_kept e.call e HeaderRead e.block base hand.ending;
+          ending = ending_kept e.call e (Wants HeaderRead) e.block base hand.ending;
           slot = hand.slot;
           held = hand.next;
-          made = λ hb q. made_same e HeaderRead e.block base (block_put after 0 hb) (hand.made hb q);
+          made = λ hb q. made_same e (Wants HeaderRead) e.block base (block_put after 0 hb) (hand.made hb q);
         };
       },
       refl,
@@ -189,8 +177,8 @@ entry_written_goes e e' base disk phase new s =
     )
 
 -- the first directory block was read
-pub put_header_goes : (e e' : Files) (base disk read : List ℕ) → e.phase ≡ HeaderRead
-    → e' ≡ record e { phase = HeaderWrite; block = e'.block }
+pub put_header_goes : (e e' : Files) (base disk read : List ℕ) → e.phase ≡ Wants HeaderRead
+    → e' ≡ record e { phase = Wants HeaderWrite; block = e'.block }
     → IsDirBlock (dir_with_header (dir_of read) e.header) e'.block → Stands e base disk → read ≡ block_in disk 0
     → GoesTo e'.phase e.call (call_bytes e) e e' base disk
 put_header_goes e e' base disk read phase new put s honest =
@@ -201,19 +189,12 @@ put_header_goes e e' base disk read phase new put s honest =
     let P : Files → Type 0 = λ x. GoesTo x.phase e.call (call_bytes e) e x base disk in
     subst P (sym new) (
       record {
-        clean = s.clean;
-        blocks = s.blocks;
-        whole = s.whole;
-        six = s.six;
-        buffer = s.buffer;
-        outgoing = block.long;
-        device = s.device;
-        apart = s.apart;
+        standing = with_block s.standing block.long;
         hand = record {
-          ending = ending_kept e.call e HeaderWrite e'.block base hand.ending;
+          ending = ending_kept e.call e (Wants HeaderWrite) e'.block base hand.ending;
           slot = hand.slot;
           held = hand.held;
-          made = made_same e HeaderWrite e'.block base (block_put disk 0 e'.block) (hand.made e'.block block);
+          made = made_same e (Wants HeaderWrite) e'.block base (block_put disk 0 e'.block) (hand.made e'.block block);
         };
       },
       refl,
@@ -289,14 +270,13 @@ made_open e name mode base disk made is s h m =
     ∙ ap (result (files_after (Open name mode) e base)) (sym (shown_set e.devices d (Some f)))
     ∙ ap (λ fs. result fs (map shown (slice_set e.devices d (Some f)))) (sym files) in
     let before : Stands (answered (pos 0) e) made made = record {
-      clean = m.clean;
-      blocks = m.size ∙ s.blocks;
-      whole = refl;
-      six = s.six;
-      buffer = s.buffer;
-      outgoing = s.outgoing;
-      device = λ c. all_open e base made (device_at e c) m h.free (s.device c);
-      apart = s.apart;
+      standing = on_made s.standing (record {
+        clean = m.clean;
+        blocks = m.size ∙ s.blocks;
+        six = s.six;
+        device = λ c. all_open e base made (device_at e c) m h.free (s.device c);
+        apart = s.apart;
+      });
       hand = refl;
     } in
     let used : entry_is_used e.entry ≡ true = ap (λ x. not (nat_eq (slice_index x 0) 0)) named ∙ name_used 27 name right.0 in (

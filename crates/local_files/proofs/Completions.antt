@@ -21,18 +21,16 @@ use Rattle.local_files.specs.declared.Files.{Files}
 use Rattle.local_files.specs.declared.FileCall.{FileCall}
 use Rattle.local_files.specs.declared.FileCall.TheVariants.{Open, Delete, Close, Read, Write, Getc, Putc, Seek, Truncate, Size}
 use Rattle.local_files.specs.declared.Phase.{Phase}
-use Rattle.local_files.specs.declared.Phase.TheVariants.{Search, Walk, Fetch, Counts, Reach, PatchRead, PatchWrite, TakeRead, TakeWrite, AddRead, AddWrite, NewRead, NewWrite, LinkRead, LinkWrite, CutRead, CutWrite, FreeWrite, EntryRead, EntryWrite, HeaderRead, HeaderWrite}
 use Rattle.local_files.specs.Hands.{system, name_of, IsSearch, IsReading, IsFetching, IsCutRead, IsCutWrite, IsFreeWrite}
 use Rattle.local_files.specs.Putting.{IsCounting, IsBegun, IsPatched, IsAddWrite, IsNewWrite, IsLinkWrite}
 use Rattle.local_files.specs.Standing.{Stands, InHand, call_of}
-use Rattle.local_files.specs.Steps.{answered, at_byte, device_at, device_of, lowest_free, is_truncate}
+use Rattle.local_files.specs.Steps.{answered, at_byte, device_at, device_of, lowest_free, is_truncate, going_on}
 use Rattle.local_files.specs.Takes.{walked, fetched}
-use Rattle.local_files.specs.Puts.{target, counts_read, reached, next_put, put_done, patch_read, take_read, take_written, newing, add_read, with_index, added_index, new_read, new_written, followed, link_read}
+use Rattle.local_files.specs.Puts.{target, counts_read, reached, next_put, put_done, patch_read, take_read, take_written, add_read, with_index, added_index, new_read, new_written, followed, link_read}
 use Rattle.local_files.specs.Cuts.{cutting, cut_read, cut_written, free_next, free_written}
 use Rattle.file_laws.specs.StoredFiles.{empty_entry, one_more}
 use Rattle.local_files.specs.Opens.{IsLook, finding, missing, searching_on, opening_at, opened, ended, ended_at}
 use Rattle.local_files.specs.Bounds.{left, left_in, put_left, cut_left}
-use Rattle.local_files.proofs.Freeing.{standing}
 use Rattle.local_files.proofs.Taking.{open_of}
 use Rattle.local_files.proofs.Putting.{where_put}
 use Rattle.local_files.proofs.PutSteps.{target_end}
@@ -41,6 +39,8 @@ use Rattle.local_files.proofs.Adds.{growing}
 use Rattle.local_files.proofs.Counting.{not_truncate}
 use Rattle.local_files.proofs.Searching.{entry_found}
 use Rattle.local_files.proofs.Falls.{below_if, walked_less, fetched_less, next_put_less, reach_to_less, put_on_less, free_next_less, cutting_less}
+use Rattle.local_files.specs.declared.Phase.TheVariants.{Wants}
+use Rattle.local_files.specs.declared.Purpose.TheVariants.{Search, Walk, Fetch, Counts, Reach, PatchRead, PatchWrite, TakeRead, TakeWrite, AddRead, AddWrite, NewRead, NewWrite, LinkRead, LinkWrite, CutRead, CutWrite, FreeWrite, EntryRead, EntryWrite, HeaderRead, HeaderWrite}
 
 -- what is left is told by what is waited for
 falls : (e x : Files) (base : List ℕ) (p : Phase) → e.phase ≡ p → left x base < left_in p e base → left x base < left e base
@@ -73,14 +73,14 @@ finding_less slot entry (Truncate n) e base m four cut = omega (arith, four)
 finding_less slot entry (Size n) e base m four cut = omega (arith, four)
 
 -- The name is in the block.
-pub found_falls : (e e' : Files) (d k : ℕ) (header : Header) (entry : Entry) (name base disk read : List ℕ) → e.phase ≡ Search d
+pub found_falls : (e e' : Files) (d k : ℕ) (header : Header) (entry : Entry) (name base disk read : List ℕ) → e.phase ≡ Wants (Search d)
     → e' ≡ finding e.call (13 * d + k) entry (record e { header = header }) → (IsLook e.call → name ≡ name_of e.call) → k < 13
     → is_this name entry ≡ true → entry ≡ slice_index_or (dir_of read).entries k void_entry → Stands e base disk → read ≡ block_in disk d
     → left e' base < left e base
 found_falls e e' d k header entry name base disk read phase new named below this is s honest =
     let block = h.block in
-    falls_to e e' (finding e.call (13 * d + k) entry (record e { header = header })) base (Search d) phase new
-    (finding_less (13 * d + k) entry e.call (record e { header = header }) base (left_in (Search d) e base)
+    falls_to e e' (finding e.call (13 * d + k) entry (record e { header = header })) base (Wants (Search d)) phase new
+    (finding_less (13 * d + k) entry e.call (record e { header = header }) base (left_in (Wants (Search d)) e base)
     (omega (arith, block)) (λ n c. (let z = size n c in omega (arith, block, z))))
   where
     h : IsSearch e d base disk
@@ -102,13 +102,13 @@ found_falls e e' d k header entry name base disk read phase new named below this
         ∙ ap (λ f. length (bytes_in f)) (named_at base s.clean slot in_range used) ∙ bytes_sized base s.clean slot in_range used
 
 -- The name isn't in the block.
-pub passed_falls : (e e' : Files) (d : ℕ) (header : Header) (slot : ℕ) (base disk : List ℕ) → e.phase ≡ Search d
+pub passed_falls : (e e' : Files) (d : ℕ) (header : Header) (slot : ℕ) (base disk : List ℕ) → e.phase ≡ Wants (Search d)
     → e' ≡ searching_on d (record e { header = header; slot = slot }) → Stands e base disk → left e' base < left e base
 passed_falls e e' d header slot base disk phase new s =
     let x : Files = record e { header = header; slot = slot } in
-    falls_to e e' (searching_on d x) base (Search d) phase new
-    (below_if (nat_lt d 5) (record x { phase = Search (d + 1) }) (missing e.call x) base (left_in (Search d) e base)
-    (λ _. omega (arith, block)) (λ _. over e.call (left_in (Search d) e base) (omega (arith, block))))
+    falls_to e e' (searching_on d x) base (Wants (Search d)) phase new
+    (below_if (nat_lt d 5) (record x { phase = Wants (Search (d + 1)) }) (missing e.call x) base (left_in (Wants (Search d)) e base)
+    (λ _. omega (arith, block)) (λ _. over e.call (left_in (Wants (Search d)) e base) (omega (arith, block))))
   where
     block : d < 6
     block = let H : Phase → Type 0 = λ p. InHand p e base disk in let h : IsSearch e d base disk = subst H phase s.hand in h.block
@@ -119,7 +119,7 @@ passed_falls e e' d header slot base disk phase new s =
         below_if (mode.only_old || nat_le 78 x.slot) (answered (negsuc 0) x) (missing_in n x) base m (λ _. omega (arith, h)) (λ _. h)
       where
         missing_in : List ℕ → Files → Files
-        missing_in n x = record x { entry = empty_entry n; header = one_more x.header; phase = EntryRead }
+        missing_in n x = record x { entry = empty_entry n; header = one_more x.header; phase = Wants EntryRead }
     over (Delete n) m h = omega (arith, h)
     over (Close n) m h = omega (arith, h)
     over (Read n k) m h = omega (arith, h)
@@ -143,19 +143,19 @@ where_read e base disk s r =
     (omega (arith, small, p, t, l, w), (omega (arith, t, f), omega (arith, small, p, t, w)))
 
 -- an index block was read
-pub walked_falls : (e e' : Files) (rest at : ℕ) (base read : List ℕ) → e.phase ≡ Walk rest at
+pub walked_falls : (e e' : Files) (rest at : ℕ) (base read : List ℕ) → e.phase ≡ Wants (Walk rest at)
     → e' ≡ walked rest (index_at (at % 7) read) e → left e' base < left e base
 walked_falls e e' rest at base read phase new =
-    falls_to e e' (walked rest (index_at (at % 7) read) e) base (Walk rest at) phase new (walked_less rest (index_at (at % 7) read) e base)
+    falls_to e e' (walked rest (index_at (at % 7) read) e) base (Wants (Walk rest at)) phase new (walked_less rest (index_at (at % 7) read) e base)
 
 -- a data block was read
-pub fetched_falls : (e e' : Files) (b : ℕ) (base disk read : List ℕ) → e.phase ≡ Fetch b → e' ≡ fetched read e → Stands e base disk
+pub fetched_falls : (e e' : Files) (b : ℕ) (base disk read : List ℕ) → e.phase ≡ Wants (Fetch b) → e' ≡ fetched read e → Stands e base disk
     → left e' base < left e base
 fetched_falls e e' b base disk read phase new s =
     let H : Phase → Type 0 = λ p. InHand p e base disk in
     let w : IsFetching e b base disk = subst H phase s.hand in
     let r = where_read e base disk s w.reading in
-    falls_to e e' (fetched read e) base (Fetch b) phase new (fetched_less read e base r.0 w.reading.left r.1.0 r.1.1)
+    falls_to e e' (fetched read e) base (Wants (Fetch b)) phase new (fetched_less read e base r.0 w.reading.left r.1.0 r.1.1)
 
 -- Putting.
 
@@ -166,10 +166,10 @@ target_most e k h =
     (λ (t : (0 < at_byte e) × (target e ≡ (at_byte e - 1) / 8192)). (let u = t.1 in omega (arith, u, h))) (target_either e)
 
 -- the counts were read
-pub counts_read_falls : (e e' : Files) (base disk read : List ℕ) → e.phase ≡ Counts → e' ≡ counts_read (dir_of read) e → Stands e base disk
+pub counts_read_falls : (e e' : Files) (base disk read : List ℕ) → e.phase ≡ Wants Counts → e' ≡ counts_read (dir_of read) e → Stands e base disk
     → left e' base < left e base
 counts_read_falls e e' base disk read phase new s =
-    falls_to e e' (counts_read (dir_of read) e) base Counts phase new
+    falls_to e e' (counts_read (dir_of read) e) base (Wants Counts) phase new
     (⊎_elim
     (λ (t : is_truncate e.call ≡ true). subst Q (sym t) (cutting_less e.entry x base (1 + cut_left (entry_at base e.slot).size 0 0)
     (omega arith)))
@@ -194,10 +194,10 @@ counts_read_falls e e' base disk read phase new s =
         (λ _ _. reach_to_less x base m (λ _. omega (arith, t)) (λ n. absurd (n b.not_reached)))
 
 -- an index block was read
-pub reached_falls : (e e' : Files) (rest at : ℕ) (base disk read : List ℕ) → e.phase ≡ Reach rest at
+pub reached_falls : (e e' : Files) (rest at : ℕ) (base disk read : List ℕ) → e.phase ≡ Wants (Reach rest at)
     → e' ≡ reached rest at (index_at (at % 7) read) e → left e' base < left e base
 reached_falls e e' rest at base disk read phase new =
-    falls_to e e' (reached rest at (index_at (at % 7) read) e) base (Reach rest at) phase new (by_rest rest)
+    falls_to e e' (reached rest at (index_at (at % 7) read) e) base (Wants (Reach rest at)) phase new (by_rest rest)
   where
     by_rest : (k : ℕ) → left (reached k at (index_at (at % 7) read) e) base < k + 7 + put_left e
     by_rest zero =
@@ -205,46 +205,46 @@ reached_falls e e' rest at base disk read phase new =
         next_put_less x base (0 + 7 + put_left e) (omega arith) (λ _. omega arith) (λ _ n. absurd (n refl))
     by_rest (suc k) =
         let x : Files = record e { index = index_at (at % 7) read; at = at } in
-        below_if (nat_lt (6 + x.index.next / 7) x.blocks) (record x { phase = Reach k x.index.next }) (answered (negsuc 0) x) base
+        below_if (nat_lt (6 + x.index.next / 7) x.blocks) (record x { phase = Wants (Reach k x.index.next) }) (answered (negsuc 0) x) base
         (suc k + 7 + put_left e) (λ _. omega arith) (λ _. omega arith)
 
 -- the data block was read
-pub patch_read_falls : (e e' : Files) (b : ℕ) (base read : List ℕ) → e.phase ≡ PatchRead b → e' ≡ patch_read b read e
+pub patch_read_falls : (e e' : Files) (b : ℕ) (base read : List ℕ) → e.phase ≡ Wants (PatchRead b) → e' ≡ patch_read b read e
     → left e' base < left e base
-patch_read_falls e e' b base read phase new = falls_to e e' (patch_read b read e) base (PatchRead b) phase new (omega arith)
+patch_read_falls e e' b base read phase new = falls_to e e' (patch_read b read e) base (Wants (PatchRead b)) phase new (omega arith)
 
 -- it is written
-pub patch_written_falls : (e e' : Files) (b : ℕ) (base disk : List ℕ) → e.phase ≡ PatchWrite b → e' ≡ next_put (put_done e)
+pub patch_written_falls : (e e' : Files) (b : ℕ) (base disk : List ℕ) → e.phase ≡ Wants (PatchWrite b) → e' ≡ next_put (put_done e)
     → Stands e base disk → left e' base < left e base
 patch_written_falls e e' b base disk phase new s =
     let H : Phase → Type 0 = λ p. InHand p e base disk in
     let h : IsPatched e b base disk = subst H phase s.hand in
     let r = h.patch.ready in let u = r.putting in let at = h.patch.reached in
-    falls_to e e' (next_put (put_done e)) base (PatchWrite b) phase new
-    (put_on_less e (put_done e) base (1 + put_left e) (where_put e base disk r.places (standing e base disk s) u) h.patch.left u.most
+    falls_to e e' (next_put (put_done e)) base (Wants (PatchWrite b)) phase new
+    (put_on_less e (put_done e) base (1 + put_left e) (where_put e base disk r.places s.standing u) h.patch.left u.most
     refl refl refl (λ z. absurd (omega (arith, z, at))) (omega arith))
 
 -- the free data block was read
-pub take_read_falls : (e e' : Files) (b next : ℕ) (base : List ℕ) → e.phase ≡ TakeRead b → e' ≡ take_read b next e
+pub take_read_falls : (e e' : Files) (b next : ℕ) (base : List ℕ) → e.phase ≡ Wants (TakeRead b) → e' ≡ take_read b next e
     → left e' base < left e base
-take_read_falls e e' b next base phase new = falls_to e e' (take_read b next e) base (TakeRead b) phase new (omega arith)
+take_read_falls e e' b next base phase new = falls_to e e' (take_read b next e) base (Wants (TakeRead b)) phase new (omega arith)
 
 -- it is written
-pub take_written_falls : (e e' : Files) (b : ℕ) (base : List ℕ) → e.phase ≡ TakeWrite b → e' ≡ take_written b e
+pub take_written_falls : (e e' : Files) (b : ℕ) (base : List ℕ) → e.phase ≡ Wants (TakeWrite b) → e' ≡ take_written b e
     → left e' base < left e base
 take_written_falls e e' b base phase new =
-    falls_to e e' (take_written b e) base (TakeWrite b) phase new
-    (below_if (at_byte e % 8192 == 0) (newing b e.header.free_index e) (record e { phase = AddRead b }) base (5 + put_left e)
-    (λ _. below_if (nat_lt (6 + e.header.free_index / 7) e.blocks) (record e { phase = NewRead b e.header.free_index })
+    falls_to e e' (take_written b e) base (Wants (TakeWrite b)) phase new
+    (below_if (at_byte e % 8192 == 0) (going_on (NewRead b e.header.free_index) e) (record e { phase = Wants (AddRead b) }) base (5 + put_left e)
+    (λ _. below_if (nat_lt (6 + e.header.free_index / 7) e.blocks) (record e { phase = Wants (NewRead b e.header.free_index) })
     (answered (negsuc 0) e) base (5 + put_left e) (λ _. omega arith) (λ _. omega arith)) (λ _. omega arith))
 
 -- the last index block was read
-pub add_read_falls : (e e' : Files) (b : ℕ) (block base : List ℕ) → e.phase ≡ AddRead b → e' ≡ add_read b block e
+pub add_read_falls : (e e' : Files) (b : ℕ) (block base : List ℕ) → e.phase ≡ Wants (AddRead b) → e' ≡ add_read b block e
     → left e' base < left e base
-add_read_falls e e' b block base phase new = falls_to e e' (add_read b block e) base (AddRead b) phase new (omega arith)
+add_read_falls e e' b block base phase new = falls_to e e' (add_read b block e) base (Wants (AddRead b)) phase new (omega arith)
 
 -- it is written
-pub add_written_falls : (e e' : Files) (b : ℕ) (base disk : List ℕ) → e.phase ≡ AddWrite b
+pub add_written_falls : (e e' : Files) (b : ℕ) (base disk : List ℕ) → e.phase ≡ Wants (AddWrite b)
     → e' ≡ next_put (put_done (with_index (added_index b e) e)) → Stands e base disk → left e' base < left e base
 add_written_falls e e' b base disk phase new s =
     let H : Phase → Type 0 = λ p. InHand p e base disk in
@@ -254,26 +254,26 @@ add_written_falls e e' b base disk phase new s =
     (cases_lt (at_byte e) 1)) in
     let at = k.reached some in
     let x = put_done (with_index (added_index b e) e) in
-    falls_to e e' (next_put x) base (AddWrite b) phase new
-    (put_on_less e x base (1 + put_left e) (where_put e base disk k.places (standing e base disk s) u) k.left u.most
+    falls_to e e' (next_put x) base (Wants (AddWrite b)) phase new
+    (put_on_less e x base (1 + put_left e) (where_put e base disk k.places s.standing u) k.left u.most
     refl refl refl (λ z. absurd (omega (arith, z, at))) (omega arith))
 
 -- the free index block was read
-pub new_read_falls : (e e' : Files) (b i : ℕ) (old : Index) (block base : List ℕ) → e.phase ≡ NewRead b i
+pub new_read_falls : (e e' : Files) (b i : ℕ) (old : Index) (block base : List ℕ) → e.phase ≡ Wants (NewRead b i)
     → e' ≡ new_read b i old block e → left e' base < left e base
-new_read_falls e e' b i old block base phase new = falls_to e e' (new_read b i old block e) base (NewRead b i) phase new (omega arith)
+new_read_falls e e' b i old block base phase new = falls_to e e' (new_read b i old block e) base (Wants (NewRead b i)) phase new (omega arith)
 
 -- it is written
-pub new_written_falls : (e e' : Files) (b i : ℕ) (base disk : List ℕ) → e.phase ≡ NewWrite b i → e' ≡ new_written b i e → Stands e base disk
+pub new_written_falls : (e e' : Files) (b i : ℕ) (base disk : List ℕ) → e.phase ≡ Wants (NewWrite b i) → e' ≡ new_written b i e → Stands e base disk
     → left e' base < left e base
 new_written_falls e e' b i base disk phase new s =
     let H : Phase → Type 0 = λ p. InHand p e base disk in
     let h : IsNewWrite e b i base disk = subst H phase s.hand in
     let n = h.new in let u = n.putting in
-    let st = standing e base disk s in
+    let st = s.standing in
     let x = put_done (followed b i (record e { entry = record e.entry { first = i } })) in
-    falls_to e e' (new_written b i e) base (NewWrite b i) phase new
-    (below_if (at_byte e == 0) (next_put x) (record e { phase = LinkRead b i }) base (3 + put_left e)
+    falls_to e e' (new_written b i e) base (Wants (NewWrite b i)) phase new
+    (below_if (at_byte e == 0) (next_put x) (record e { phase = Wants (LinkRead b i) }) base (3 + put_left e)
     (λ t. (let z : at_byte e ≡ 0 = grind (arith, nat_tests) in
     let g = growing e base disk n.places st u n.left n.ends in
     let at = g.at in let cl = g.read.chain_long in let few = n.cursor.below in
@@ -283,80 +283,80 @@ new_written_falls e e' b i base disk phase new s =
     (λ _. omega arith))
 
 -- the last index block was read
-pub link_read_falls : (e e' : Files) (b i : ℕ) (block base : List ℕ) → e.phase ≡ LinkRead b i → e' ≡ link_read b i block e
+pub link_read_falls : (e e' : Files) (b i : ℕ) (block base : List ℕ) → e.phase ≡ Wants (LinkRead b i) → e' ≡ link_read b i block e
     → left e' base < left e base
-link_read_falls e e' b i block base phase new = falls_to e e' (link_read b i block e) base (LinkRead b i) phase new (omega arith)
+link_read_falls e e' b i block base phase new = falls_to e e' (link_read b i block e) base (Wants (LinkRead b i)) phase new (omega arith)
 
 -- it is written
-pub link_written_falls : (e e' : Files) (b i : ℕ) (base disk : List ℕ) → e.phase ≡ LinkWrite b i
+pub link_written_falls : (e e' : Files) (b i : ℕ) (base disk : List ℕ) → e.phase ≡ Wants (LinkWrite b i)
     → e' ≡ next_put (put_done (followed b i e)) → Stands e base disk → left e' base < left e base
 link_written_falls e e' b i base disk phase new s =
     let H : Phase → Type 0 = λ p. InHand p e base disk in
     let h : IsLinkWrite e b i base disk = subst H phase s.hand in
     let n = h.link.new in let u = n.putting in
-    let st = standing e base disk s in
+    let st = s.standing in
     let x = put_done (followed b i e) in
     let some = h.link.some in let reached = n.reached some in let t = target_end e n.ends some in
-    falls_to e e' (next_put x) base (LinkWrite b i) phase new
+    falls_to e e' (next_put x) base (Wants (LinkWrite b i)) phase new
     (put_on_less e x base (1 + put_left e) (where_put e base disk n.places st u) n.left u.most
     refl refl refl (λ z. absurd (omega (arith, z, reached, t))) (omega arith))
 
 -- Cutting.
 
 -- the index block was read
-pub cut_read_falls : (e e' : Files) (index : Index) (block base disk : List ℕ) → e.phase ≡ CutRead → e' ≡ cut_read index block e
+pub cut_read_falls : (e e' : Files) (index : Index) (block base disk : List ℕ) → e.phase ≡ Wants CutRead → e' ≡ cut_read index block e
     → Stands e base disk → left e' base < left e base
 cut_read_falls e e' index block base disk phase new s =
     let H : Phase → Type 0 = λ p. InHand p e base disk in
     let h : IsCutRead e base disk = subst H phase s.hand in
     let below = h.below in let long = h.cutting.chain_long in
-    falls_to e e' (cut_read index block e) base CutRead phase new (omega (arith, below, long))
+    falls_to e e' (cut_read index block e) base (Wants CutRead) phase new (omega (arith, below, long))
 
 -- it is written
-pub cut_written_falls : (e e' : Files) (base disk : List ℕ) → e.phase ≡ CutWrite → e' ≡ free_next (cut_written e) → Stands e base disk
+pub cut_written_falls : (e e' : Files) (base disk : List ℕ) → e.phase ≡ Wants CutWrite → e' ≡ free_next (cut_written e) → Stands e base disk
     → left e' base < left e base
 cut_written_falls e e' base disk phase new s =
     let H : Phase → Type 0 = λ p. InHand p e base disk in
     let h : IsCutWrite e base disk = subst H phase s.hand in
     let c = h.read.cutting in let short = c.short in let lt = h.read.below in
     let up : (e.reached + 1) % 4294967296 ≡ suc e.reached = omega (arith, short, lt) in
-    falls_to e e' (free_next (cut_written e)) base CutWrite phase new
-    (free_next_less (cut_written e) base (left_in CutWrite e base) (omega arith) (omega (arith, up)) (omega (arith, up)))
+    falls_to e e' (free_next (cut_written e)) base (Wants CutWrite) phase new
+    (free_next_less (cut_written e) base (left_in (Wants CutWrite) e base) (omega arith) (omega (arith, up)) (omega (arith, up)))
 
 -- a data block is written
-pub free_written_falls : (e e' : Files) (b : ℕ) (base disk : List ℕ) → e.phase ≡ FreeWrite b → e' ≡ free_next (free_written b e)
+pub free_written_falls : (e e' : Files) (b : ℕ) (base disk : List ℕ) → e.phase ≡ Wants (FreeWrite b) → e' ≡ free_next (free_written b e)
     → Stands e base disk → left e' base < left e base
 free_written_falls e e' b base disk phase new s =
     let H : Phase → Type 0 = λ p. InHand p e base disk in
     let h : IsFreeWrite e b base disk = subst H phase s.hand in
     let row = h.within in let some = h.some in let more = h.below in let long = h.cutting.blocks_long in
     let up : (e.freed + 1) % 4294967296 ≡ suc e.freed = omega (arith, row) in
-    falls_to e e' (free_next (free_written b e)) base (FreeWrite b) phase new
-    (free_next_less (free_written b e) base (left_in (FreeWrite b) e base) (omega (arith, more, long)) (omega (arith, up, more, long))
+    falls_to e e' (free_next (free_written b e)) base (Wants (FreeWrite b)) phase new
+    (free_next_less (free_written b e) base (left_in (Wants (FreeWrite b)) e base) (omega (arith, more, long)) (omega (arith, up, more, long))
     (omega (arith, row, some, more, long)))
 
 -- Ending.
 
 -- the directory block of the entry was read
-pub put_entry_falls : (e e' : Files) (block base : List ℕ) → e.phase ≡ EntryRead
-    → e' ≡ (record e { phase = EntryWrite; block = block }) → left e' base < left e base
+pub put_entry_falls : (e e' : Files) (block base : List ℕ) → e.phase ≡ Wants EntryRead
+    → e' ≡ (record e { phase = Wants EntryWrite; block = block }) → left e' base < left e base
 put_entry_falls e e' block base phase new =
-    falls_to e e' (record e { phase = EntryWrite; block = block }) base EntryRead phase new (omega arith)
+    falls_to e e' (record e { phase = Wants EntryWrite; block = block }) base (Wants EntryRead) phase new (omega arith)
 
 -- it is written
-pub entry_written_falls : (e e' : Files) (base : List ℕ) → e.phase ≡ EntryWrite → e' ≡ (record e { phase = HeaderRead })
+pub entry_written_falls : (e e' : Files) (base : List ℕ) → e.phase ≡ Wants EntryWrite → e' ≡ (record e { phase = Wants HeaderRead })
     → left e' base < left e base
-entry_written_falls e e' base phase new = falls_to e e' (record e { phase = HeaderRead }) base EntryWrite phase new (omega arith)
+entry_written_falls e e' base phase new = falls_to e e' (record e { phase = Wants HeaderRead }) base (Wants EntryWrite) phase new (omega arith)
 
 -- the first directory block was read
-pub put_header_falls : (e e' : Files) (block base : List ℕ) → e.phase ≡ HeaderRead
-    → e' ≡ (record e { phase = HeaderWrite; block = block }) → left e' base < left e base
+pub put_header_falls : (e e' : Files) (block base : List ℕ) → e.phase ≡ Wants HeaderRead
+    → e' ≡ (record e { phase = Wants HeaderWrite; block = block }) → left e' base < left e base
 put_header_falls e e' block base phase new =
-    falls_to e e' (record e { phase = HeaderWrite; block = block }) base HeaderRead phase new (omega arith)
+    falls_to e e' (record e { phase = Wants HeaderWrite; block = block }) base (Wants HeaderRead) phase new (omega arith)
 
 -- it is written: the call is done
-pub header_written_falls : (e e' : Files) (base : List ℕ) → e.phase ≡ HeaderWrite → e' ≡ ended e.call e → left e' base < left e base
-header_written_falls e e' base phase new = falls_to e e' (ended e.call e) base HeaderWrite phase new (by_call e.call)
+pub header_written_falls : (e e' : Files) (base : List ℕ) → e.phase ≡ Wants HeaderWrite → e' ≡ ended e.call e → left e' base < left e base
+header_written_falls e e' base phase new = falls_to e e' (ended e.call e) base (Wants HeaderWrite) phase new (by_call e.call)
   where
     by_device : (o : Option ℕ) → left (ended_at o e) base < 1
     by_device None = omega arith

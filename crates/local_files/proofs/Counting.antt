@@ -12,7 +12,7 @@ use Rattle.local_files.specs.declared.Phase.{Phase}
 use Rattle.local_files.specs.Hands.{IsOpenOn, put_bytes}
 use Rattle.local_files.specs.Putting.{IsPut, IsReady}
 use Rattle.local_files.specs.Steps.{device_at, device_of, is_truncate}
-use Rattle.local_files.specs.Standing.{Stands, InHand, GoesTo, call_bytes}
+use Rattle.local_files.specs.Standing.{Stands, InHand, GoesTo, call_bytes, IsStanding}
 use Rattle.lfs_format.specs.Directory.{dir_of}
 use Rattle.xinu_model.specs.Files.Writing.{overwritten}
 use Rattle.std.proofs.Common.{drop}
@@ -25,16 +25,18 @@ use Rattle.file_laws.specs.Middle.{IsMiddle}
 use Rattle.file_laws.proofs.Middles.{middle_begins}
 use Rattle.local_files.specs.Hands.{IsCutFor}
 use Rattle.local_files.specs.Cuts.{cutting}
-use Rattle.local_files.proofs.Freeing.{IsStanding, goes_from}
+use Rattle.local_files.proofs.Freeing.{goes_from}
 use Rattle.local_files.proofs.Taking.{open_of}
 use Rattle.local_files.specs.Puts.{next_put}
 use Rattle.local_files.proofs.PutSteps.{next_put_goes}
-use Rattle.local_files.specs.declared.Phase.TheVariants.{Counts}
 use Rattle.local_files.specs.Putting.{IsCounting, IsBegun}
 use Rattle.local_files.specs.Puts.{counts_read}
 use Rattle.local_files.proofs.CutWrites.{cutting_goes}
 use Rattle.lfs_check.specs.Fields.{header_2}
 use Rattle.std.proofs.lemmas.List.{take-append-drop}
+use Rattle.local_files.proofs.Standing.{at_base}
+use Rattle.local_files.specs.declared.Phase.TheVariants.{Wants}
+use Rattle.local_files.specs.declared.Purpose.TheVariants.{Counts}
 
 -- what the counts are
 counts_are : (base disk read : List ℕ) → read ≡ block_in disk 0 → disk ≡ base → header_2 (dir_of read) ≡ header_on base
@@ -60,7 +62,7 @@ none_put q k new old none = ap (λ j. overwritten q (take j new) old) none
     ∙ ap (λ j. take q old ++ drop j old) (let z : q + 0 ≡ q = omega arith in z) ∙ take-append-drop q old
 
 -- The counts were read.
-pub counts_read_goes : (e e' : Files) (base disk read : List ℕ) → e.phase ≡ Counts → e' ≡ counts_read (dir_of read) e → Stands e base disk
+pub counts_read_goes : (e e' : Files) (base disk read : List ℕ) → e.phase ≡ Wants Counts → e' ≡ counts_read (dir_of read) e → Stands e base disk
     → read ≡ block_in disk 0 → GoesTo e'.phase e.call (call_bytes e) e e' base disk
 counts_read_goes e e' base disk read phase new s honest =
     let D : List ℕ → Type 0 = λ x. GoesTo e'.phase e.call (call_bytes e) e e' base x in
@@ -83,16 +85,7 @@ counts_read_goes e e' base disk read phase new s honest =
     x = record e { header = header_2 (dir_of read) }
 
     st : IsStanding x base base
-    st = record {
-      clean = s.clean;
-      blocks = s.blocks;
-      whole = refl;
-      six = s.six;
-      outgoing = s.outgoing;
-      buffer = s.buffer;
-      device = s.device;
-      apart = s.apart;
-    }
+    st = at_base s.standing
 
     header : x.header ≡ header_on base
     header = counts_are base disk read honest h.same

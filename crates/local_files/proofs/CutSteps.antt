@@ -12,8 +12,8 @@ use Rattle.local_files.specs.declared.FileCall.{FileCall}
 use Rattle.local_files.specs.declared.FileCall.TheVariants.{Open, Delete, Close, Read, Write, Getc, Putc, Seek, Truncate, Size}
 use Rattle.local_files.specs.declared.Phase.{Phase}
 use Rattle.local_files.specs.Hands.{system, IsCall, name_of}
-use Rattle.local_files.specs.Steps.{answered, shown, device_of}
-use Rattle.local_files.specs.Standing.{GoesTo, call_bytes}
+use Rattle.local_files.specs.Steps.{answered, shown, device_of, going_on}
+use Rattle.local_files.specs.Standing.{GoesTo, call_bytes, IsStanding}
 use Rattle.std.proofs.Common.{◌-◌, ◌*◌, replicate, length-append, min}
 use Rattle.byteorder.specs.Endian.{little_bytes}
 use Rattle.lfs_format.specs.declared.Index.{Index}
@@ -25,10 +25,12 @@ use Rattle.lfs_check.specs.Laid.{Places, index_for}
 use Rattle.lfs_check.specs.Disks.{disk_geometry}
 use Rattle.file_laws.specs.Changing.{IsCut}
 use Rattle.local_files.specs.Hands.{IsCutFor, IsCutting, IsCutRead}
-use Rattle.local_files.specs.Cuts.{cut_at, end_cut, free_next, freeing, word_block}
-use Rattle.local_files.specs.declared.Phase.TheVariants.{CutRead, FreeWrite}
-use Rattle.local_files.proofs.Freeing.{IsStanding, end_cut_goes, number_at, null_at, some_at, none_at, goes_from}
+use Rattle.local_files.specs.Cuts.{end_cut, free_next, freeing, word_block}
+use Rattle.local_files.proofs.Freeing.{end_cut_goes, number_at, null_at, some_at, none_at, goes_from}
 use Rattle.std.proofs.lemmas.List.{length-replicate}
+use Rattle.local_files.proofs.Standing.{with_block}
+use Rattle.local_files.specs.declared.Phase.TheVariants.{Wants}
+use Rattle.local_files.specs.declared.Purpose.TheVariants.{CutRead, FreeWrite}
 
 -- what the call is for does not depend on its steps
 pub for_kept : (call : FileCall) (e e2 : Files) (base : List ℕ) → e2.call ≡ e.call → e2.slot ≡ e.slot → e2.devices ≡ e.devices
@@ -86,29 +88,22 @@ index_on_disk n i low h = let q : 6 + i / 7 < n = omega (arith, low, h) in grind
 
 -- Goes on to an index block.
 pub cut_at_goes : (e : Files) (base disk : List ℕ) → IsStanding e base disk → IsCutRead e base disk
-    → GoesTo (cut_at e).phase e.call (call_bytes e) e (cut_at e) base disk
+    → GoesTo (going_on CutRead e).phase e.call (call_bytes e) e (going_on CutRead e) base disk
 cut_at_goes e base disk s r =
     let c = r.cutting in let m = c.cut.middle in
     let i = slice_index c.chain e.reached in
     let below = (c.cut.index e.reached (omega arith) r.below).below in
     let t : nat_lt (6 + e.at / 7) e.blocks ≡ true = ap (λ k. nat_lt (6 + k / 7) e.blocks) r.at ∙ index_on_disk e.blocks i m.low below in
-    let e2 : Files = record e { phase = CutRead } in
+    let e2 : Files = record e { phase = Wants CutRead } in
     let P : Bool → Type 0 = λ v. GoesTo (if v then e2 else answered (negsuc 0) e).phase e.call (call_bytes e) e
     (if v then e2 else answered (negsuc 0) e) base disk in
     subst P (sym t) (
       record {
-        clean = s.clean;
-        blocks = s.blocks;
-        whole = s.whole;
-        six = s.six;
-        buffer = s.buffer;
-        outgoing = s.outgoing;
-        device = s.device;
-        apart = s.apart;
+        standing = s;
         hand = record {
           below = r.below;
           at = r.at;
-          cutting = cutting_kept e CutRead e.index e.header e.at e.reached e.freed e.block (16 * e.reached) (16 * e.reached) base disk disk
+          cutting = cutting_kept e (Wants CutRead) e.index e.header e.at e.reached e.freed e.block (16 * e.reached) (16 * e.reached) base disk disk
               c.places c refl c.cut;
         };
       },
@@ -150,21 +145,14 @@ free_next_goes e freed base disk s c some most index row is =
         let x_is : last ≡ true = ap (λ w. w && not (slice_index e.index.blocks (e.freed % 16) == null)) a ∙ ap (λ w. not (w == null)) v
         ∙ ap not nn in
         let on : nat_lt b e.blocks ≡ true = grind (arith, nat_tests) in
-        let e2 : Files = record e { block = word_block e.header.free_data; phase = FreeWrite b } in
-        let rest = if not (e.index.next == null) then cut_at (record e { at = e.index.next }) else end_cut e in
+        let e2 : Files = record e { block = word_block e.header.free_data; phase = Wants (FreeWrite b) } in
+        let rest = if not (e.index.next == null) then going_on CutRead (record e { at = e.index.next }) else end_cut e in
         let P : Bool → Type 0 = λ w. G (if w then freeing (slice_index e.index.blocks (e.freed % 16)) e else rest) in
         let Q : ℕ → Type 0 = λ k. G (freeing k e) in
         let R : Bool → Type 0 = λ w. G (if w then e2 else answered (negsuc 0) e) in
         subst P (sym x_is) (subst Q (sym v) (subst R (sym on) (
           record {
-            clean = s.clean;
-            blocks = s.blocks;
-            whole = s.whole;
-            six = s.six;
-            buffer = s.buffer;
-            outgoing = word_long e.header.free_data;
-            device = s.device;
-            apart = s.apart;
+            standing = with_block s (word_long e.header.free_data);
             hand = record {
               some = some;
               within = lt;
@@ -173,7 +161,7 @@ free_next_goes e freed base disk s c some most index row is =
               below = more;
               here = refl;
               block = refl;
-              cutting = cutting_kept e (FreeWrite b) e.index e.header e.at e.reached e.freed (word_block e.header.free_data) freed
+              cutting = cutting_kept e (Wants (FreeWrite b)) e.index e.header e.at e.reached e.freed (word_block e.header.free_data) freed
                   (16 * j + e.freed) base disk disk c.places c refl
                   (let K : ℕ → Type 0 = λ k. IsCut e.blocks base disk e.header e.slot e.entry c.places c.chain c.blocks e.reached k in
                   subst K (let q : freed ≡ 16 * j + e.freed = omega (arith, is, more) in q) c.cut);
@@ -201,7 +189,7 @@ free_next_goes e freed base disk s c some most index row is =
         (λ (ge : 16 ≤ e.freed). (let a : nat_lt e.freed 16 ≡ false = grind (arith, nat_tests) in
         ap (λ w. w && not (slice_index e.index.blocks (e.freed % 16) == null)) a))
         (cases_lt e.freed 16) in
-        let rest : Bool → Files = λ w. if not w then cut_at (record e { at = e.index.next }) else end_cut e in
+        let rest : Bool → Files = λ w. if not w then going_on CutRead (record e { at = e.index.next }) else end_cut e in
         let P : Bool → Type 0 = λ w. G (if w then freeing (slice_index e.index.blocks (e.freed % 16)) e else rest (e.index.next == null)) in
         let chain_long = c.chain_long in let blocks_long = c.blocks_long in
         subst P (sym x_is) (⊎_elim
@@ -215,23 +203,14 @@ free_next_goes e freed base disk s c some most index row is =
         let e2 : Files = record e { at = e.index.next } in
         let R : Bool → Type 0 = λ w. G (rest w) in
         let K : ℕ → Type 0 = λ k. IsCut e.blocks base disk e.header e.slot e.entry c.places c.chain c.blocks e.reached k in
-        let goes = cut_at_goes e2 base disk (record {
-          clean = s.clean;
-          blocks = s.blocks;
-          whole = s.whole;
-          six = s.six;
-          outgoing = s.outgoing;
-          buffer = s.buffer;
-          device = s.device;
-          apart = s.apart;
-        })
+        let goes = cut_at_goes e2 base disk (s)
         (record {
           below = more;
           at = next;
           cutting = cutting_kept e e.phase e.index e.header e.index.next e.reached e.freed e.block freed (16 * e.reached) base disk disk c.places c refl
               (subst K (let q : freed ≡ 16 * e.reached = omega (arith, all, some, more, chain_long, blocks_long) in q) c.cut);
         }) in
-        subst R (sym nn) (goes_before (cut_at e2).phase (cut_at e2) goes)))
+        subst R (sym nn) (goes_before (going_on CutRead e2).phase (going_on CutRead e2) goes)))
         (λ (end : length c.chain ≤ e.reached). (let next : e.index.next ≡ null = ap (λ (x : Index). x.next) index
         ∙ none_at c.chain (suc j) null (omega (arith, end, some)) in
         let yes : (e.index.next == null) ≡ true = ap (λ k. k == null) next in

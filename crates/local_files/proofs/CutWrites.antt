@@ -9,7 +9,7 @@ use Rattle.file_laws.specs.StoredFiles.{entry_bytes}
 use Rattle.file_laws.proofs.Counted.{entry_small}
 use Rattle.local_files.specs.declared.Files.{Files}
 use Rattle.local_files.specs.declared.Phase.{Phase}
-use Rattle.local_files.specs.Standing.{Stands, InHand, GoesTo, call_bytes}
+use Rattle.local_files.specs.Standing.{Stands, InHand, GoesTo, call_bytes, IsStanding}
 use Rattle.local_files.proofs.Closings.{put_whole}
 use Rattle.std.proofs.Common.{◌-◌, ◌*◌, drop, replicate}
 use Rattle.lfs_format.specs.Words.{word_of}
@@ -28,14 +28,17 @@ use Rattle.file_laws.proofs.Middles.{middle_begins}
 use Rattle.file_laws.proofs.Reached.{middle_read, free_data_first, free_data_some}
 use Rattle.file_laws.proofs.Cutting.{cut_begins, cut_data, cut_index}
 use Rattle.local_files.specs.Hands.{IsCutFor, IsCutting, IsCutRead, IsCutWrite, IsFreeWrite}
-use Rattle.local_files.specs.Cuts.{cutting, cut_at, end_cut, cut_read, cut_written, freed_index, free_next, free_written}
-use Rattle.local_files.specs.declared.Phase.TheVariants.{CutRead, CutWrite, FreeWrite}
+use Rattle.local_files.specs.Cuts.{cutting, end_cut, cut_read, cut_written, freed_index, free_next, free_written}
 use Rattle.local_files.proofs.Closings.{put_whole}
-use Rattle.local_files.proofs.Freeing.{IsStanding, end_cut_goes, some_at, goes_from}
+use Rattle.local_files.proofs.Freeing.{end_cut_goes, some_at, goes_from}
 use Rattle.local_files.proofs.CutSteps.{for_kept, cutting_kept, cut_at_goes, free_next_goes}
+use Rattle.local_files.proofs.Standing.{with_block, with_disk}
+use Rattle.local_files.specs.declared.Phase.TheVariants.{Wants}
+use Rattle.local_files.specs.declared.Purpose.TheVariants.{CutRead, CutWrite, FreeWrite}
+use Rattle.local_files.specs.Steps.{going_on}
 
 -- The index block was read.
-pub cut_read_goes : (e e' : Files) (base disk read : List ℕ) → e.phase ≡ CutRead → e' ≡ cut_read (index_at (e.at % 7) read) e'.block e
+pub cut_read_goes : (e e' : Files) (base disk read : List ℕ) → e.phase ≡ Wants CutRead → e' ≡ cut_read (index_at (e.at % 7) read) e'.block e
     → IsIndexPut read (e.at % 7) (freed_index (index_at (e.at % 7) read) e) e'.block → Stands e base disk
     → read ≡ block_in disk (6 + e.at / 7) → GoesTo e'.phase e.call (call_bytes e) e e' base disk
 cut_read_goes e e' base disk read phase new put s honest =
@@ -46,26 +49,19 @@ cut_read_goes e e' base disk read phase new put s honest =
     let index : index_at (e.at % 7) read ≡ index_for e.reached c.chain c.blocks =
     ap (index_at (e.at % 7)) honest ∙ ap (λ k. index_at (k % 7) (block_in disk (6 + k / 7))) r.at
     ∙ (c.cut.index e.reached (omega arith) r.below).read in
-    let e2 : Files = record e { index = index_at (e.at % 7) read; block = e'.block; phase = CutWrite } in
+    let e2 : Files = record e { index = index_at (e.at % 7) read; block = e'.block; phase = Wants CutWrite } in
     let R : List ℕ → Type 0 = λ b. IsIndexPut b (e.at % 7) (freed_index (index_at (e.at % 7) read) e) e'.block in
     let P : Files → Type 0 = λ x. GoesTo x.phase e.call (call_bytes e) e x base disk in
     subst P (sym new) (
       record {
-        clean = s.clean;
-        blocks = s.blocks;
-        whole = s.whole;
-        six = s.six;
-        buffer = s.buffer;
-        outgoing = put.long;
-        device = s.device;
-        apart = s.apart;
+        standing = with_block s.standing put.long;
         hand = record {
           index = index;
           put = subst R honest put;
           read = record {
             below = r.below;
             at = r.at;
-            cutting = cutting_kept e CutWrite (index_at (e.at % 7) read) e.header e.at e.reached e.freed e'.block (16 * e.reached)
+            cutting = cutting_kept e (Wants CutWrite) (index_at (e.at % 7) read) e.header e.at e.reached e.freed e'.block (16 * e.reached)
                 (16 * e.reached) base disk disk c.places c refl c.cut;
           };
         };
@@ -76,7 +72,7 @@ cut_read_goes e e' base disk read phase new put s honest =
     )
 
 -- The index block is written.
-pub cut_written_goes : (e e' : Files) (base disk : List ℕ) → e.phase ≡ CutWrite → e' ≡ free_next (cut_written e) → Stands e base disk
+pub cut_written_goes : (e e' : Files) (base disk : List ℕ) → e.phase ≡ Wants CutWrite → e' ≡ free_next (cut_written e) → Stands e base disk
     → GoesTo e'.phase e.call (call_bytes e) e e' base (block_put disk (6 + e.at / 7) e.block)
 cut_written_goes e e' base disk phase new s =
     let H : Phase → Type 0 = λ p. InHand p e base disk in
@@ -102,16 +98,7 @@ cut_written_goes e e' base disk phase new s =
     let c2 : IsCutting e2 (16 * e.reached) base made = cutting_kept e e.phase e.index (record e.header { free_index = e.at }) e.at ((e.reached + 1) % 4294967296) 0 e.block
     (16 * e.reached) (16 * e.reached) base disk made p2 c refl cut2 in
     let cl = c.chain_long in let bl = c.blocks_long in
-    let goes = free_next_goes e2 (16 * e.reached) base made (record {
-      clean = s.clean;
-      blocks = s.blocks;
-      whole = put_whole e base disk (6 + e.at / 7) s on;
-      six = s.six;
-      outgoing = s.outgoing;
-      buffer = s.buffer;
-      device = s.device;
-      apart = s.apart;
-    })
+    let goes = free_next_goes e2 (16 * e.reached) base made (with_disk s.standing (put_whole e base disk (6 + e.at / 7) s on))
     c2 (omega (arith, up)) (omega (arith, up, lt)) (w.index
     ∙ ap (λ k. index_for k c.chain c.blocks) (let q : e.reached ≡ (e.reached + 1) % 4294967296 - 1 = omega (arith, up) in
     q)) (omega arith) (omega (arith, up, lt, cl, bl)) in
@@ -119,7 +106,7 @@ cut_written_goes e e' base disk phase new s =
     subst P (sym new) (goes_from (free_next e2).phase e.call (call_bytes e) e2 e (free_next e2) base made refl goes)
 
 -- A data block is written.
-pub free_written_goes : (e e' : Files) (b : ℕ) (base disk : List ℕ) → e.phase ≡ FreeWrite b → e' ≡ free_next (free_written b e)
+pub free_written_goes : (e e' : Files) (b : ℕ) (base disk : List ℕ) → e.phase ≡ Wants (FreeWrite b) → e' ≡ free_next (free_written b e)
     → Stands e base disk → GoesTo e'.phase e.call (call_bytes e) e e' base (block_put disk b e.block)
 free_written_goes e e' b base disk phase new s =
     let H : Phase → Type 0 = λ p. InHand p e base disk in
@@ -142,16 +129,7 @@ free_written_goes e e' b base disk phase new s =
     let c2 : IsCutting e2 (suc k) base made = cutting_kept e e.phase e.index (record e.header { free_data = b }) e.at e.reached ((e.freed + 1) % 4294967296) e.block k (suc k)
     base disk made p2 c refl cut2 in
     let more = w.below in
-    let goes = free_next_goes e2 (suc k) base made (record {
-      clean = s.clean;
-      blocks = s.blocks;
-      whole = put_whole e base disk b s on;
-      six = s.six;
-      outgoing = s.outgoing;
-      buffer = s.buffer;
-      device = s.device;
-      apart = s.apart;
-    })
+    let goes = free_next_goes e2 (suc k) base made (with_disk s.standing (put_whole e base disk b s on))
     c2 w.some w.most w.index (omega (arith, up, row)) (omega (arith, up, more)) in
     let P : Files → Type 0 = λ x. GoesTo x.phase e.call (call_bytes e) e x base made in
     subst P (sym new) (goes_from (free_next e2).phase e.call (call_bytes e) e2 e (free_next e2) base made refl goes)
@@ -171,13 +149,13 @@ pub cutting_goes : (e : Files) (base : List ℕ) → IsStanding e base base → 
     → entry_is_used e.entry ≡ true → e.header ≡ header_on base → IsCutFor e.call e base
     → GoesTo (cutting e.entry e).phase e.call (call_bytes e) e (cutting e.entry e) base base
 cutting_goes e base s slot entry used header for =
-    either-way (e.entry.size == 0) (λ v. (e.entry.size == 0) ≡ v → G (if v then end_cut e2 else cut_at e2))
+    either-way (e.entry.size == 0) (λ v. (e.entry.size == 0) ≡ v → G (if v then end_cut e2 else going_on CutRead e2))
     (λ _ t. (let z : e.entry.size ≡ 0 = grind (arith, nat_tests) in
     goes_from (end_cut e2).phase e.call (call_bytes e) e2 e (end_cut e2) base base refl
     (end_cut_goes e2 0 base base s2 c2 (omega (arith, chain_long, z)) (omega (arith, blocks_long, z)))))
     (λ _ t. (let z : e.entry.size ≢ 0 = (λ q. not_zero e.entry.size q t) in
     let more : 0 < length chain = omega (arith, chain_long, z) in
-    goes_from (cut_at e2).phase e.call (call_bytes e) e2 e (cut_at e2) base base refl (cut_at_goes e2 base base s2 (record {
+    goes_from (going_on CutRead e2).phase e.call (call_bytes e) e2 e (going_on CutRead e2) base base refl (cut_at_goes e2 base base s2 (record {
       cutting = c2;
       below = more;
       at = first ∙ some_at chain 0 null more;
@@ -221,16 +199,7 @@ cutting_goes e base s slot entry used header for =
     e2 = record e { at = e.entry.first; reached = 0; freed = 0; entry = record e.entry { size = 0; first = null } }
 
     s2 : IsStanding e2 base base
-    s2 = record {
-      clean = s.clean;
-      blocks = s.blocks;
-      whole = s.whole;
-      six = s.six;
-      outgoing = s.outgoing;
-      buffer = s.buffer;
-      device = s.device;
-      apart = s.apart;
-    }
+    s2 = s
 
     p2 : Places
     p2 = record p {

@@ -16,6 +16,7 @@ use Rattle.local_files.specs.declared.Files.{Files}
 use Rattle.local_files.specs.Steps.{shown, device_at, answered, with_device, has_this_open, is_this_open}
 use Rattle.local_files.specs.Hands.{IsOpenOn, IsDevice, AreApart}
 use Rattle.local_files.specs.Standing.{Stands}
+use Rattle.local_files.proofs.Standing.{at_base}
 
 -- what a device shows
 pub shown_at : (xs : List (Option OpenFile)) (d : ℕ) → slice_index_or (map shown xs) d None ≡ shown (slice_index_or xs d None)
@@ -90,14 +91,7 @@ not_open n (x ∷ xs) zero f z e = ap (has_this_open n) (sym e) ∙ (or_parts (h
 -- an engine that answers stands for the same disk
 pub answered_stands : (reply : ℤ) (e : Files) (base : List ℕ) → Stands e base base → Stands (answered reply e) base base
 answered_stands reply e base s = record {
-  clean = s.clean;
-  blocks = s.blocks;
-  whole = refl;
-  six = s.six;
-  buffer = s.buffer;
-  outgoing = s.outgoing;
-  device = s.device;
-  apart = s.apart;
+  standing = at_base s.standing;
   hand = refl;
 }
 
@@ -139,14 +133,7 @@ apart_set e base disk d x s h mine b c ne =
 pub set_stands : (reply : ℤ) (e : Files) (base : List ℕ) (d : ℕ) (x : Option OpenFile) → Stands e base base → d < 6 → IsDevice base x
     → ((c : ℕ) → c ≢ d → AreApart (device_at e c) x × AreApart x (device_at e c)) → Stands (answered reply (with_device d x e)) base base
 set_stands reply e base d x s h mine away = record {
-  clean = s.clean;
-  blocks = s.blocks;
-  whole = refl;
-  six = length-set e.devices d x ∙ s.six;
-  buffer = s.buffer;
-  outgoing = s.outgoing;
-  device = device_set e base base d x s h mine;
-  apart = apart_set e base base d x s h away;
+  standing = record { opened = record { clean = s.clean; blocks = s.blocks; six = length-set e.devices d x ∙ s.six; device = device_set e base base d x s h mine; apart = apart_set e base base d x s h away }; whole = refl; outgoing = s.outgoing; buffer = s.buffer };
   hand = refl;
 }
 

@@ -18,7 +18,6 @@ use Rattle.local_files.specs.declared.Files.{Files}
 use Rattle.local_files.specs.declared.FileCall.{FileCall}
 use Rattle.local_files.specs.declared.FileCall.TheVariants.{Open, Delete, Close, Read, Write, Getc, Putc, Seek, Truncate, Size}
 use Rattle.local_files.specs.declared.Phase.{Phase}
-use Rattle.local_files.specs.declared.Phase.TheVariants.{HeaderWrite}
 use Rattle.local_files.specs.Hands.{system, IsEnding, IsMade, IsHeaderWrite, IsDevice, IsOpenOn, AreApart, IsCall, IsWritten, IsEmptied, IsDeleting, files_after, MayLook, name_of, seen, put_bytes}
 use Rattle.local_files.specs.Steps.{device_at, answered, with_device, lowest_free, shown, kept_at, counted, at_byte, device_of, is_write, is_truncate, has_this_open, is_this_open}
 use Rattle.local_files.specs.Standing.{Stands, InHand, GoesTo, call_bytes, given_bytes}
@@ -29,6 +28,9 @@ use Rattle.xinu_model.specs.Files.Calls as model
 use Rattle.local_files.proofs.Closings.{made_open}
 use Rattle.file_laws.proofs.Effects.{write_effect, putc_effect, truncate_effect, delete_effect}
 use Rattle.xinu_model.specs.Files.Writing.{overwritten, fitting}
+use Rattle.local_files.proofs.Standing.{on_made}
+use Rattle.local_files.specs.declared.Phase.TheVariants.{Wants}
+use Rattle.local_files.specs.declared.Purpose.TheVariants.{HeaderWrite}
 
 -- a device has something else open
 set_each : (P : Option OpenFile → Type 0) (e : Files) (d : ℕ) (x : Option OpenFile) → d < length e.devices → P x
@@ -75,16 +77,15 @@ kept_stands e base disk made d position f reply s m at slot named within =
     let back : (c : ℕ) → c ≢ d → AreApart (Some f) (device_at e c) = λ c ne.
     (let Q : Option OpenFile → Type 0 = λ x. AreApart x (device_at e c) in subst Q at (s.apart d c (λ z. ne (sym z)))) in
     record {
-      clean = m.clean;
-      blocks = m.size ∙ s.blocks;
-      whole = refl;
-      six = length-set e.devices d (Some g)
-          ∙ six;
-      buffer = s.buffer;
-      outgoing = s.outgoing;
-      device = set_each P e d (Some g) (omega (arith, below, six)) mine (λ c ne.
-          open_there e base made (device_at e c) m f.slot (sym slot) f refl (away c ne) (s.device c));
-      apart = apart_set e base disk d (Some g) s below (λ c ne. apart_moved (device_at e c) f g refl (away c ne) (back c ne));
+      standing = on_made s.standing (record {
+        clean = m.clean;
+        blocks = m.size ∙ s.blocks;
+        six = length-set e.devices d (Some g)
+            ∙ six;
+        device = set_each P e d (Some g) (omega (arith, below, six)) mine (λ c ne.
+            open_there e base made (device_at e c) m f.slot (sym slot) f refl (away c ne) (s.device c));
+        apart = apart_set e base disk d (Some g) s below (λ c ne. apart_moved (device_at e c) f g refl (away c ne) (back c ne));
+      });
       hand = refl;
     }
 
@@ -262,14 +263,13 @@ deleted_goes e name base disk made is s w m =
     is_open (bare_name x) (system e base)) named ∙ closed) refl files in (
       ap (λ x. model.file_effect (model.Delete (bare_name x)) [] (system e base)) (sym named) ∙ effect,
       record {
-        clean = m.clean;
-        blocks = m.size ∙ s.blocks;
-        whole = refl;
-        six = s.six;
-        buffer = s.buffer;
-        outgoing = s.outgoing;
-        device = λ c. deleted_there e base made name (device_at e c) m named (closed_at name e.devices c none) (s.device c);
-        apart = s.apart;
+        standing = on_made s.standing (record {
+          clean = m.clean;
+          blocks = m.size ∙ s.blocks;
+          six = s.six;
+          device = λ c. deleted_there e base made name (device_at e c) m named (closed_at name e.devices c none) (s.device c);
+          apart = s.apart;
+        });
         hand = refl;
       },
     )
@@ -281,7 +281,7 @@ deleted_goes e name base disk made is s w m =
     closed_at name (x ∷ xs) (suc c) z = closed_at name xs c (or_parts (has_this_open name x) (is_this_open name xs) z).1
 
 -- what the code leaves
-pub header_written_goes : (e e' : Files) (base disk : List ℕ) → e.phase ≡ HeaderWrite → e' ≡ ended e.call e → Stands e base disk
+pub header_written_goes : (e e' : Files) (base disk : List ℕ) → e.phase ≡ Wants HeaderWrite → e' ≡ ended e.call e → Stands e base disk
     → GoesTo e'.phase e.call (call_bytes e) e e' base (block_put disk 0 e.block)
 header_written_goes e e' base disk phase new s =
     let P : Files → Type 0 = λ x. GoesTo x.phase e.call (call_bytes e) e x base made in

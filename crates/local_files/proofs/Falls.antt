@@ -7,12 +7,13 @@ use Rattle.lfs_format.specs.declared.Entry.{Entry}
 use Rattle.lfs_check.specs.Meets.{null}
 use Rattle.lfs_check.specs.Disks.{entry_at}
 use Rattle.local_files.specs.declared.Files.{Files}
-use Rattle.local_files.specs.declared.Phase.TheVariants.{Walk, Fetch, Reach, PatchRead, TakeRead, CutRead, FreeWrite, EntryRead, Done}
-use Rattle.local_files.specs.Steps.{answered, at_byte, piece, is_getc, is_delete, device_at, moved_to, counted, named_device}
-use Rattle.local_files.specs.Takes.{walking, fetching, walked, fetched, with_taken, next_fetch, finished_read}
-use Rattle.local_files.specs.Puts.{end_put, at_end, target, reaching, reach_to, taking, appending, patching, in_place, next_put}
-use Rattle.local_files.specs.Cuts.{cut_at, end_cut, freeing, free_next, word_block, cutting}
+use Rattle.local_files.specs.Steps.{answered, at_byte, piece, is_getc, is_delete, device_at, moved_to, counted, named_device, going_on}
+use Rattle.local_files.specs.Takes.{walked, fetched, with_taken, next_fetch, finished_read}
+use Rattle.local_files.specs.Puts.{end_put, at_end, target, reach_to, appending, in_place, next_put}
+use Rattle.local_files.specs.Cuts.{end_cut, freeing, free_next, word_block, cutting}
 use Rattle.local_files.specs.Bounds.{left, read_left, put_left, cut_left}
+use Rattle.local_files.specs.declared.Phase.TheVariants.{Done, Wants}
+use Rattle.local_files.specs.declared.Purpose.TheVariants.{Walk, Fetch, Reach, PatchRead, TakeRead, CutRead, FreeWrite, EntryRead}
 
 -- either way fewer are left
 pub below_if : (b : Bool) (x y : Files) (base : List ℕ) (m : ℕ) → (b ≡ true → left x base < m) → (b ≡ false → left y base < m)
@@ -23,15 +24,15 @@ below_if false x y base m p q = q refl
 -- Reading.
 
 -- goes on to an index block
-pub walking_less : (rest at : ℕ) (e : Files) (base : List ℕ) (m : ℕ) → rest + 1 + read_left e < m → left (walking rest at e) base < m
+pub walking_less : (rest at : ℕ) (e : Files) (base : List ℕ) (m : ℕ) → rest + 1 + read_left e < m → left (going_on (Walk rest at) e) base < m
 walking_less rest at e base m h =
-    below_if (nat_lt (6 + at / 7) e.blocks) (record e { phase = Walk rest at }) (answered (negsuc 0) e) base m (λ _. h)
+    below_if (nat_lt (6 + at / 7) e.blocks) (record e { phase = Wants (Walk rest at) }) (answered (negsuc 0) e) base m (λ _. h)
     (λ _. omega (arith, h))
 
 -- goes on to a data block
-fetching_less : (b : ℕ) (e : Files) (base : List ℕ) (m : ℕ) → read_left e < m → left (fetching b e) base < m
+fetching_less : (b : ℕ) (e : Files) (base : List ℕ) (m : ℕ) → read_left e < m → left (going_on (Fetch b) e) base < m
 fetching_less b e base m h =
-    below_if (nat_lt b e.blocks) (record e { phase = Fetch b }) (answered (negsuc 0) e) base m (λ _. h) (λ _. omega (arith, h))
+    below_if (nat_lt b e.blocks) (record e { phase = Wants (Fetch b) }) (answered (negsuc 0) e) base m (λ _. h) (λ _. omega (arith, h))
 
 -- an index block was read
 pub walked_less : (rest : ℕ) (index : Index) (e : Files) (base : List ℕ) → left (walked rest index e) base < rest + 1 + read_left e
@@ -70,7 +71,7 @@ fetched_less block e base at more most small =
         let s = stepped e.position e.done e.total (at_byte e) x.done at more most refl l in
         let on = s.0 in let row = s.1 in
         let at2 : at_byte x ≡ e.position + x.done = omega (arith, small, l) in
-        below_if (at_byte x % 8192 == 0) (walking 0 x.index.next x) (fetching (slice_index x.index.blocks (at_byte x / 512 % 16)) x) base
+        below_if (at_byte x % 8192 == 0) (going_on (Walk 0 x.index.next) x) (going_on (Fetch (slice_index x.index.blocks (at_byte x / 512 % 16))) x) base
         (read_left e)
         (λ t. walking_less 0 x.index.next x base (read_left e)
         (let z : at_byte x % 8192 ≡ 0 = grind (arith, nat_tests) in omega (arith, at2, z, on, row, l, at)))
@@ -79,16 +80,16 @@ fetched_less block e base at more most small =
 -- Putting.
 
 -- goes on to an index block
-reaching_less : (rest at : ℕ) (e : Files) (base : List ℕ) (m : ℕ) → rest + 7 + put_left e < m → left (reaching rest at e) base < m
+reaching_less : (rest at : ℕ) (e : Files) (base : List ℕ) (m : ℕ) → rest + 7 + put_left e < m → left (going_on (Reach rest at) e) base < m
 reaching_less rest at e base m h =
-    below_if (nat_lt (6 + at / 7) e.blocks) (record e { phase = Reach rest at }) (answered (negsuc 0) e) base m (λ _. h)
+    below_if (nat_lt (6 + at / 7) e.blocks) (record e { phase = Wants (Reach rest at) }) (answered (negsuc 0) e) base m (λ _. h)
     (λ _. omega (arith, h))
 
 -- goes on to the index block that is needed
 pub reach_to_less : (e : Files) (base : List ℕ) (m : ℕ) → (e.reached ≡ 0 → target e + 7 + put_left e < m)
     → (e.reached ≢ 0 → 7 + put_left e < m) → left (reach_to e) base < m
 reach_to_less e base m first next =
-    below_if (e.reached == 0) (reaching (target e) e.entry.first e) (reaching 0 e.index.next e) base m
+    below_if (e.reached == 0) (going_on (Reach (target e) e.entry.first) e) (going_on (Reach 0 e.index.next) e) base m
     (λ t. reaching_less (target e) e.entry.first e base m (first (let z : e.reached ≡ 0 = grind (arith, nat_tests) in z)))
     (λ t. reaching_less 0 e.index.next e base m (next (not_zero e.reached t)))
   where
@@ -98,7 +99,7 @@ reach_to_less e base m first next =
 -- no more bytes are put
 end_put_less : (e : Files) (base : List ℕ) (m : ℕ) → 4 < m → left (end_put e) base < m
 end_put_less e base m h =
-    below_if (e.done == 0) (answered (negsuc 0) e) (record e { phase = EntryRead }) base m (λ _. omega (arith, h)) (λ _. h)
+    below_if (e.done == 0) (answered (negsuc 0) e) (record e { phase = Wants EntryRead }) base m (λ _. omega (arith, h)) (λ _. h)
 
 -- goes on with the bytes that are left
 pub next_put_less : (e : Files) (base : List ℕ) (m : ℕ) → 4 < m → (e.done < e.total → 6 + put_left e < m)
@@ -117,15 +118,15 @@ next_put_less e base m four put reach =
         let at_it = e.reached == target e + 1 in
         let room = put l in
         below_if (at_end e) (appending e) (in_place e) base m
-        (λ _. below_if full (end_put e) (if (at_byte e == 0) || at_it then taking e else reach_to e) base m
+        (λ _. below_if full (end_put e) (if (at_byte e == 0) || at_it then going_on (TakeRead e.header.free_data) e else reach_to e) base m
         (λ _. end_put_less e base m four)
-        (λ _. below_if ((at_byte e == 0) || at_it) (taking e) (reach_to e) base m
-        (λ _. below_if (nat_lt e.header.free_data e.blocks) (record e { phase = TakeRead e.header.free_data }) (answered (negsuc 0) e) base m
+        (λ _. below_if ((at_byte e == 0) || at_it) (going_on (TakeRead e.header.free_data) e) (reach_to e) base m
+        (λ _. below_if (nat_lt e.header.free_data e.blocks) (record e { phase = Wants (TakeRead e.header.free_data) }) (answered (negsuc 0) e) base m
         (λ _. room) (λ _. omega (arith, four)))
         (λ t. reach l (other e.reached (target e + 1) (or_parts (at_byte e == 0) at_it t).1))))
-        (λ _. below_if at_it (patching (slice_index e.index.blocks (at_byte e / 512 % 16)) e) (reach_to e) base m
+        (λ _. below_if at_it (going_on (PatchRead (slice_index e.index.blocks (at_byte e / 512 % 16))) e) (reach_to e) base m
         (λ _. below_if (nat_lt (slice_index e.index.blocks (at_byte e / 512 % 16)) e.blocks)
-        (record e { phase = PatchRead (slice_index e.index.blocks (at_byte e / 512 % 16)) }) (answered (negsuc 0) e) base m
+        (record e { phase = Wants (PatchRead (slice_index e.index.blocks (at_byte e / 512 % 16))) }) (answered (negsuc 0) e) base m
         (λ _. omega (arith, room)) (λ _. omega (arith, four)))
         (λ t. reach l (other e.reached (target e + 1) t)))
 
@@ -147,9 +148,9 @@ put_on_less e x base m at more most p t d r h =
 
 -- goes on to an index block
 cut_at_less : (e : Files) (base : List ℕ) (m : ℕ) → cut_left (entry_at base e.slot).size e.reached (16 * e.reached) < m
-    → left (cut_at e) base < m
+    → left (going_on CutRead e) base < m
 cut_at_less e base m h =
-    below_if (nat_lt (6 + e.at / 7) e.blocks) (record e { phase = CutRead }) (answered (negsuc 0) e) base m (λ _. h) (λ _. omega (arith, h))
+    below_if (nat_lt (6 + e.at / 7) e.blocks) (record e { phase = Wants CutRead }) (answered (negsuc 0) e) base m (λ _. h) (λ _. omega (arith, h))
 
 -- all blocks are free
 end_cut_less : (e : Files) (base : List ℕ) (m : ℕ) → 4 < m → left (end_cut e) base < m
@@ -157,8 +158,8 @@ end_cut_less e base m h =
     below_if (is_delete e.call) (record e {
       entry = record e.entry { name = replicate 28 0 };
       header = record e.header { files = (e.header.files + 4294967295) % 4294967296 };
-      phase = EntryRead;
-    }) (record e { phase = EntryRead }) base m (λ _. h) (λ _. h)
+      phase = Wants EntryRead;
+    }) (record e { phase = Wants EntryRead }) base m (λ _. h) (λ _. h)
 
 -- goes on to the next data block, or the next index block, or the end
 pub free_next_less : (e : Files) (base : List ℕ) (m : ℕ) → 4 < m
@@ -168,10 +169,10 @@ pub free_next_less : (e : Files) (base : List ℕ) (m : ℕ) → 4 < m
 free_next_less e base m four freed index =
     let b = slice_index e.index.blocks (e.freed % 16) in
     below_if (nat_lt e.freed 16 && not (b == null)) (freeing b e)
-    (if not (e.index.next == null) then cut_at (record e { at = e.index.next }) else end_cut e) base m
-    (λ _. below_if (nat_lt b e.blocks) (record e { block = word_block e.header.free_data; phase = FreeWrite b }) (answered (negsuc 0) e)
+    (if not (e.index.next == null) then going_on CutRead (record e { at = e.index.next }) else end_cut e) base m
+    (λ _. below_if (nat_lt b e.blocks) (record e { block = word_block e.header.free_data; phase = Wants (FreeWrite b) }) (answered (negsuc 0) e)
     base m (λ _. freed) (λ _. omega (arith, four)))
-    (λ _. below_if (not (e.index.next == null)) (cut_at (record e { at = e.index.next })) (end_cut e) base m
+    (λ _. below_if (not (e.index.next == null)) (going_on CutRead (record e { at = e.index.next })) (end_cut e) base m
     (λ _. cut_at_less (record e { at = e.index.next }) base m index) (λ _. end_cut_less e base m four))
 
 -- the file in hand is to be cut
@@ -179,4 +180,4 @@ pub cutting_less : (entry : Entry) (e : Files) (base : List ℕ) (m : ℕ) → c
     → left (cutting entry e) base < m
 cutting_less entry e base m h =
     let c : Files = record e { at = entry.first; reached = 0; freed = 0; entry = record entry { size = 0; first = null } } in
-    below_if (entry.size == 0) (end_cut c) (cut_at c) base m (λ _. end_cut_less c base m (omega (arith, h))) (λ _. cut_at_less c base m h)
+    below_if (entry.size == 0) (end_cut c) (going_on CutRead c) base m (λ _. end_cut_less c base m (omega (arith, h))) (λ _. cut_at_less c base m h)

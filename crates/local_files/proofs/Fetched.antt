@@ -15,10 +15,9 @@ use Rattle.local_files.specs.declared.Files.{Files}
 use Rattle.local_files.specs.declared.FileCall.{FileCall}
 use Rattle.local_files.specs.declared.FileCall.TheVariants.{Open, Delete, Close, Read, Write, Getc, Putc, Seek, Truncate, Size}
 use Rattle.local_files.specs.declared.Phase.{Phase}
-use Rattle.local_files.specs.declared.Phase.TheVariants.{Fetch, Done}
 use Rattle.local_files.specs.Hands.{system, IsOpenOn, seen, put_bytes, IsReading, IsFetching, read_count}
-use Rattle.local_files.specs.Steps.{device_at, answered, with_device, shown, at_byte, device_of, piece, or_none, named_device, moved_to}
-use Rattle.local_files.specs.Standing.{Stands, InHand, GoesTo, call_bytes, given_bytes}
+use Rattle.local_files.specs.Steps.{device_at, answered, with_device, shown, at_byte, device_of, piece, or_none, named_device, moved_to, going_on}
+use Rattle.local_files.specs.Standing.{Stands, InHand, GoesTo, call_bytes, given_bytes, IsStanding}
 use Rattle.local_files.proofs.Devices.{shown_set, shown_at}
 use Rattle.xinu_model.specs.Files.Systems as systems
 use Rattle.file_laws.proofs.Effects.{read_effect, getc_effect}
@@ -29,17 +28,20 @@ use Rattle.lfs_check.specs.Meets.{null}
 use Rattle.lfs_check.specs.Laid.{index_for}
 use Rattle.lfs_check.proofs.KeepsAll.{either-way}
 use Rattle.file_laws.specs.Changing.{IsReadBy}
-use Rattle.local_files.proofs.Freeing.{IsStanding, some_at, goes_from}
+use Rattle.local_files.proofs.Freeing.{some_at, goes_from}
 use Rattle.std.proofs.lemmas.List.{take_at, drop_at, drop-drop}
-use Rattle.local_files.specs.Takes.{walking, fetching, with_taken, fetched, next_fetch, finished_read, finished_at, given_all}
+use Rattle.local_files.specs.Takes.{with_taken, fetched, next_fetch, finished_read, finished_at, given_all}
 use Rattle.file_laws.proofs.ReadBlocks.{bytes_in_block}
 use Rattle.file_laws.proofs.Patched.{block_long}
 use Rattle.file_laws.proofs.Fitting.{length_overwritten}
 use Rattle.local_files.proofs.Ends.{counted_small}
 use Rattle.local_files.proofs.Taking.{open_of, reading_file, where_is, walking_goes, fetching_goes, block_of, take_add, first_of, first_taken, take_min, no_bytes, moved_stands}
+use Rattle.local_files.proofs.Standing.{at_base, with_buffer}
+use Rattle.local_files.specs.declared.Phase.TheVariants.{Done, Wants}
+use Rattle.local_files.specs.declared.Purpose.TheVariants.{Walk, Fetch}
 
 -- A data block was read.
-pub fetched_goes : (e e' : Files) (b : ℕ) (base disk read : List ℕ) → e.phase ≡ Fetch b → length read ≡ 512 → e' ≡ fetched read e
+pub fetched_goes : (e e' : Files) (b : ℕ) (base disk read : List ℕ) → e.phase ≡ Wants (Fetch b) → length read ≡ 512 → e' ≡ fetched read e
     → Stands e base disk → read ≡ block_in disk b → GoesTo e'.phase e.call (call_bytes e) e e' base disk
 fetched_goes e e' b base disk read phase wide new s honest =
     let P : Files → Type 0 = λ x. GoesTo x.phase e.call (call_bytes e) e x base disk in
@@ -73,16 +75,7 @@ fetched_goes e e' b base disk read phase wide new s honest =
     }
 
     st : IsStanding e base base
-    st = record {
-      clean = s.clean;
-      blocks = s.blocks;
-      whole = refl;
-      six = s.six;
-      outgoing = s.outgoing;
-      buffer = s.buffer;
-      device = s.device;
-      apart = s.apart;
-    }
+    st = at_base s.standing
 
     o : IsOpenOn base r.file
     o = open_of base (device_at e (device_of e.call)) r.file r.open_is (s.device (device_of e.call))
@@ -173,16 +166,7 @@ fetched_goes e e' b base disk read phase wide new s honest =
         ∙ ap (λ n. take n (drop pos_is (entry_bytes base entry))) (sym done_is)
 
     st2 : IsStanding e2 base base
-    st2 = record {
-      clean = s.clean;
-      blocks = s.blocks;
-      whole = refl;
-      six = s.six;
-      outgoing = s.outgoing;
-      buffer = buffer_long;
-      device = s.device;
-      apart = s.apart;
-    }
+    st2 = with_buffer (at_base s.standing) buffer_long
 
     at2 : at_byte e2 ≡ pos_is + e2.done
     at2 = let t = r.total in let l = r.left in let v = r.within in let y = k_is in let d = done_is in let p = r.position in let z = small in
@@ -212,14 +196,14 @@ fetched_goes e e' b base disk read phase wide new s honest =
         let bound : q2 % 512 ≡ 0 = omega (arith, y, d, l, more) in
         let cl = f.chain_long in let bl = f.blocks_long in let t = r.total in let v = r.within in
         either-way (at_byte e2 % 8192 == 0) (λ v. (at_byte e2 % 8192 == 0) ≡ v
-        → G (if v then walking 0 e.index.next e2 else fetching (slice_index e.index.blocks (at_byte e2 / 512 % 16)) e2))
+        → G (if v then going_on (Walk 0 e.index.next) e2 else going_on (Fetch (slice_index e.index.blocks (at_byte e2 / 512 % 16))) e2))
         (λ _ z. (let whole : at_byte e2 % 8192 ≡ 0 = grind (arith, nat_tests) in
         let a = at2 in
         let up : suc (q / 8192) ≡ q2 / 8192 = omega (arith, y, d, l, more, whole, a) in
         let lt : q2 / 8192 < length chain = omega (arith, more, t, v, cl) in
         let next : e.index.next ≡ slice_index chain (q2 / 8192 - 0) = ap (λ (x : Index). x.next) w.index
         ∙ some_at chain (suc (q / 8192)) null (omega (arith, up, lt)) ∙ ap (slice_index chain) (omega (arith, up)) in
-        let x = walking 0 e.index.next e2 in
+        let x = going_on (Walk 0 e.index.next) e2 in
         goes_from x.phase e.call (call_bytes e) e2 e x base base refl
         (subst (B2 x) bytes_same (walking_goes e2 0 e.index.next base st2 r2 (omega arith) next))))
         (λ _ z. (let part_way : at_byte e2 % 8192 ≢ 0 = (λ u. false≢true (sym z ∙ zero_is (at_byte e2 % 8192) u)) in
@@ -229,7 +213,7 @@ fetched_goes e e' b base disk read phase wide new s honest =
         let index2 : e2.index ≡ index_for (q2 / 8192) chain data_list = w.index ∙ ap (λ j. index_for j chain data_list) same in
         let here : slice_index e.index.blocks (at_byte e2 / 512 % 16) ≡ slice_index data_list (q2 / 512) =
         ap (λ j. slice_index e.index.blocks (j / 512 % 16)) a ∙ block_of e2 base q2 chain data_list index2 lt in
-        let x = fetching (slice_index e.index.blocks (at_byte e2 / 512 % 16)) e2 in
+        let x = going_on (Fetch (slice_index e.index.blocks (at_byte e2 / 512 % 16))) e2 in
         goes_from x.phase e.call (call_bytes e) e2 e x base base refl
         (subst (B2 x) bytes_same (fetching_goes e2 (slice_index e.index.blocks (at_byte e2 / 512 % 16)) base st2 r2 index2 here))))
         refl
@@ -272,16 +256,7 @@ fetched_goes e e' b base disk read phase wide new s honest =
     finished (Read d n) is end =
         let at = held d (Read d n) is refl in
         let e3 : Files = record e2 { call = Read d n } in
-        let s3 : IsStanding e3 base base = record {
-          clean = s.clean;
-          blocks = s.blocks;
-          whole = refl;
-          six = s.six;
-          outgoing = s.outgoing;
-          buffer = buffer_long;
-          device = s.device;
-          apart = s.apart;
-        } in
+        let s3 : IsStanding e3 base base = with_buffer (at_base s.standing) buffer_long in
         let count : read_count e.call ≡ n = ap read_count is in
         let total : e.total ≡ min n (entry.size - pos_is) = r.total ∙ ap (λ x. min x (entry.size - pos_is)) count in
         let ahead_bytes = drop pos_is (entry_bytes base entry) in
@@ -316,30 +291,14 @@ fetched_goes e e' b base disk read phase wide new s honest =
               ∙ ap (λ p. result (take e.total e2.buffer) (slice_set (map shown e.devices) d (Some (x p)))) (let z : pos_is + e.total ≡ q + k =
               omega (arith, end) in z) ∙ ap (result (take e.total e2.buffer)) (sym (shown_set e.devices d (Some g))),
           record {
-            clean = m.clean;
-            blocks = m.blocks;
-            whole = refl;
-            six = m.six;
-            buffer = m.buffer;
-            outgoing = m.outgoing;
-            device = m.device;
-            apart = m.apart;
+            standing = at_base m.standing;
             hand = refl;
           },
         )
     finished (Getc d) is end =
         let at = held d (Getc d) is refl in
         let e3 : Files = record e2 { call = Getc d } in
-        let s3 : IsStanding e3 base base = record {
-          clean = s.clean;
-          blocks = s.blocks;
-          whole = refl;
-          six = s.six;
-          outgoing = s.outgoing;
-          buffer = buffer_long;
-          device = s.device;
-          apart = s.apart;
-        } in
+        let s3 : IsStanding e3 base base = with_buffer (at_base s.standing) buffer_long in
         let count : read_count e.call ≡ 1 = ap read_count is in
         let v = r.within in
         let total : e.total ≡ 1 = r.total ∙ ap (λ x. min x (entry.size - pos_is)) count ∙ (omega (arith, v)) in
@@ -366,14 +325,7 @@ fetched_goes e e' b base disk read phase wide new s honest =
           effect ∙ ap (λ p. result (slice_set (map shown e.devices) d (Some (x p)))) (let z : pos_is + 1 ≡ q + k =
               omega (arith, end, total) in z) ∙ ap result (sym (shown_set e.devices d (Some g))),
           record {
-            clean = m.clean;
-            blocks = m.blocks;
-            whole = refl;
-            six = m.six;
-            buffer = m.buffer;
-            outgoing = m.outgoing;
-            device = m.device;
-            apart = m.apart;
+            standing = at_base m.standing;
             hand = refl;
           },
         )

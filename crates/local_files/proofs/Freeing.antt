@@ -1,12 +1,11 @@
 -- The blocks of a file that is cut are freed.
-use Rattle.std.proofs.Common.{◌≡◌, ◌≢◌, ℕ, zero, suc, ◌+◌, ◌*◌, ◌/◌, ◌<◌, ◌≤◌, Bool, true, cond, List, [], ◌∷◌, length, refl, sym, ap, ◌∙◌, subst, arith, slice_index_or, slice_index, ◌%◌, get_or-set_same, take, ◌++◌, count_by}
+use Rattle.std.proofs.Common.{◌≡◌, ℕ, zero, suc, ◌+◌, ◌*◌, ◌/◌, ◌<◌, ◌≤◌, Bool, true, cond, List, [], ◌∷◌, length, refl, sym, ap, ◌∙◌, subst, arith, slice_index_or, slice_index, ◌%◌, get_or-set_same, take, ◌++◌, count_by}
 use Rattle.std.proofs.Common.{if◌then◌else◌, false}
 use Rattle.std.proofs.lemmas.Bool.{false≢true}
 use Rattle.lfs_format.specs.declared.Entry.{Entry}
 use Rattle.lfs_check.specs.Rules.{entry_is_used}
 use Rattle.lfs_check.specs.Disks.{block_put, entry_at, entries}
 use Rattle.lfs_layout.specs.Files.{bare_name}
-use Rattle.lfs_layout.specs.Images.{IsCleanImage}
 use Rattle.xinu_model.specs.Files.Stored.{without_file}
 use Rattle.xinu_model.specs.Files.Systems.{is_open}
 use Rattle.file_laws.specs.StoredFiles.{stored_files}
@@ -16,10 +15,9 @@ use Rattle.local_files.specs.declared.Files.{Files}
 use Rattle.local_files.specs.declared.FileCall.{FileCall}
 use Rattle.local_files.specs.declared.FileCall.TheVariants.{Open, Delete, Close, Read, Write, Getc, Putc, Seek, Truncate, Size}
 use Rattle.local_files.specs.declared.Phase.{Phase}
-use Rattle.local_files.specs.declared.Phase.TheVariants.{EntryWrite, HeaderRead, HeaderWrite, EntryRead, Idle, Done, Search, Walk, Fetch, Counts, Reach, PatchRead, PatchWrite, TakeRead, TakeWrite, AddRead, AddWrite, NewRead, NewWrite, LinkRead, LinkWrite, CutRead, CutWrite, FreeWrite}
-use Rattle.local_files.specs.Hands.{system, IsMade, IsDevice, AreApart, IsCall, IsEntryBlock, IsHeaderBlock, name_of, put_bytes, name_in_hand}
+use Rattle.local_files.specs.Hands.{system, IsMade, IsCall, IsEntryBlock, IsHeaderBlock, name_of, put_bytes, name_in_hand}
 use Rattle.local_files.specs.Steps.{device_at, device_of}
-use Rattle.local_files.specs.Standing.{Stands, InHand, served, GoesTo, call_bytes, given_bytes}
+use Rattle.local_files.specs.Standing.{Stands, InHand, served, GoesTo, call_bytes, given_bytes, IsStanding}
 use Rattle.local_files.specs.Standing as engine
 use Rattle.xinu_model.specs.Files.Calls as model
 use Rattle.lfs_format.specs.Directory.{void_entry}
@@ -37,9 +35,10 @@ use Rattle.file_laws.proofs.Resting.{middle_holds, ending_holds}
 use Rattle.file_laws.proofs.Counted.{base_counted}
 use Rattle.local_files.specs.Hands.{IsCutFor, IsCutting}
 use Rattle.local_files.specs.Cuts.{end_cut}
-use Rattle.local_files.specs.declared.Phase.TheVariants.{CutRead, CutWrite, FreeWrite}
 use Rattle.std.proofs.lemmas.List.Sums.{sum_by-cons}
 use Rattle.file_laws.proofs.Rewritten.{rewritten_entry, entry_count}
+use Rattle.local_files.specs.declared.Phase.TheVariants.{Idle, Done, Wants}
+use Rattle.local_files.specs.declared.Purpose.TheVariants.{EntryRead}
 
 -- an element of an index block's numbers
 pub number_at : (j i : ℕ) (chain blocks : List ℕ) → i < 16 → 16 * j + i < length blocks
@@ -93,30 +92,6 @@ none_at [] j d h = refl
 none_at (x ∷ xs) zero d h = absurd (omega (arith, h))
 none_at (x ∷ xs) (suc j) d h = none_at xs j d (omega (arith, h))
 
--- What the engine has of a disk besides what it waits for.
-pub record IsStanding (e : Files) (base disk : List ℕ) : Type 0 where
-  pub clean : IsCleanImage base
-  pub blocks : length base ≡ 512 * e.blocks
-  pub whole : length disk ≡ length base
-  pub six : length e.devices ≡ 6
-  pub outgoing : length e.block ≡ 512
-  pub buffer : length e.buffer ≡ 1048576
-  pub device : (d : ℕ) → IsDevice base (device_at e d)
-  pub apart : (c d : ℕ) → c ≢ d → AreApart (device_at e c) (device_at e d)
-
--- an engine that stands for a disk has it
-pub standing : (e : Files) (base disk : List ℕ) → Stands e base disk → IsStanding e base disk
-standing e base disk s = record {
-  clean = s.clean;
-  blocks = s.blocks;
-  whole = s.whole;
-  six = s.six;
-  outgoing = s.outgoing;
-  buffer = s.buffer;
-  device = s.device;
-  apart = s.apart;
-}
-
 -- there are used entries
 count_some : (test : Entry → Bool) (es : List Entry) (k : ℕ) → k < length es → test (slice_index_or es k void_entry) ≡ true
     → 1 ≤ count_by test es
@@ -154,7 +129,7 @@ end_cut_goes e freed base disk s c all_index all_data = by_call e.call refl c.fo
     by_call : (k : FileCall) → e.call ≡ k → IsCutFor k e base
         → GoesTo (end_cut (record e { call = k })).phase k (given_bytes k (put_bytes e)) e (end_cut (record e { call = k })) base disk
     by_call (Truncate d) is h =
-        let e2 : Files = record e { phase = EntryRead; call = Truncate d } in
+        let e2 : Files = record e { phase = Wants EntryRead; call = Truncate d } in
         let m = c.cut.middle in
         let low = m.low in let size = c.size in
         let made : (eb hb : List ℕ) → IsEntryBlock e2 disk eb → IsHeaderBlock e2 (block_put disk (e.slot / 13) eb) hb
@@ -164,14 +139,7 @@ end_cut_goes e freed base disk s c all_index all_data = by_call e.call refl c.fo
         let f = middle_ends n base disk e.header e.slot e.entry c.places [] eb hb m none.0 none.1 c.files (omega (arith, size)) r in
         record { clean = f.clean; size = f.size; files = f.files; entry = f.entry_is; others = f.others }) in (
           record {
-            clean = s.clean;
-            blocks = s.blocks;
-            whole = s.whole;
-            six = s.six;
-            buffer = s.buffer;
-            outgoing = s.outgoing;
-            device = s.device;
-            apart = s.apart;
+            standing = s;
             hand = record {
               ending = record {
                 file = h.file;
@@ -221,14 +189,7 @@ end_cut_goes e freed base disk s c all_index all_data = by_call e.call refl c.fo
           others = f.others;
         }) in (
           record {
-            clean = s.clean;
-            blocks = s.blocks;
-            whole = s.whole;
-            six = s.six;
-            buffer = s.buffer;
-            outgoing = s.outgoing;
-            device = s.device;
-            apart = s.apart;
+            standing = s;
             hand = record {
               ending = record {
                 slot = h.slot;
@@ -291,25 +252,4 @@ pub goes_from : (p : Phase) (call : FileCall) (bytes : List ℕ) (old old' new :
 goes_from Idle call bytes old old' new base disk same g = g
 goes_from (Done r) call bytes old old' new base disk same g =
     (ap (λ x. model.file_effect (engine.call_of call bytes) bytes x) (sym same) ∙ g.0, g.1)
-goes_from (Search x0) call bytes old old' new base disk same g = (g.0, g.1, g.2, g.3 ∙ same)
-goes_from (Walk x0 x1) call bytes old old' new base disk same g = (g.0, g.1, g.2, g.3 ∙ same)
-goes_from (Fetch x0) call bytes old old' new base disk same g = (g.0, g.1, g.2, g.3 ∙ same)
-goes_from Counts call bytes old old' new base disk same g = (g.0, g.1, g.2, g.3 ∙ same)
-goes_from (Reach x0 x1) call bytes old old' new base disk same g = (g.0, g.1, g.2, g.3 ∙ same)
-goes_from (PatchRead x0) call bytes old old' new base disk same g = (g.0, g.1, g.2, g.3 ∙ same)
-goes_from (PatchWrite x0) call bytes old old' new base disk same g = (g.0, g.1, g.2, g.3 ∙ same)
-goes_from (TakeRead x0) call bytes old old' new base disk same g = (g.0, g.1, g.2, g.3 ∙ same)
-goes_from (TakeWrite x0) call bytes old old' new base disk same g = (g.0, g.1, g.2, g.3 ∙ same)
-goes_from (AddRead x0) call bytes old old' new base disk same g = (g.0, g.1, g.2, g.3 ∙ same)
-goes_from (AddWrite x0) call bytes old old' new base disk same g = (g.0, g.1, g.2, g.3 ∙ same)
-goes_from (NewRead x0 x1) call bytes old old' new base disk same g = (g.0, g.1, g.2, g.3 ∙ same)
-goes_from (NewWrite x0 x1) call bytes old old' new base disk same g = (g.0, g.1, g.2, g.3 ∙ same)
-goes_from (LinkRead x0 x1) call bytes old old' new base disk same g = (g.0, g.1, g.2, g.3 ∙ same)
-goes_from (LinkWrite x0 x1) call bytes old old' new base disk same g = (g.0, g.1, g.2, g.3 ∙ same)
-goes_from CutRead call bytes old old' new base disk same g = (g.0, g.1, g.2, g.3 ∙ same)
-goes_from CutWrite call bytes old old' new base disk same g = (g.0, g.1, g.2, g.3 ∙ same)
-goes_from (FreeWrite x0) call bytes old old' new base disk same g = (g.0, g.1, g.2, g.3 ∙ same)
-goes_from EntryRead call bytes old old' new base disk same g = (g.0, g.1, g.2, g.3 ∙ same)
-goes_from EntryWrite call bytes old old' new base disk same g = (g.0, g.1, g.2, g.3 ∙ same)
-goes_from HeaderRead call bytes old old' new base disk same g = (g.0, g.1, g.2, g.3 ∙ same)
-goes_from HeaderWrite call bytes old old' new base disk same g = (g.0, g.1, g.2, g.3 ∙ same)
+goes_from (Wants purpose) call bytes old old' new base disk same g = (g.0, g.1, g.2, g.3 ∙ same)

@@ -8,10 +8,9 @@ use Rattle.lfs_check.proofs.BlockPuts.{put_same}
 use Rattle.file_laws.specs.StoredFiles.{entry_bytes}
 use Rattle.local_files.specs.declared.Files.{Files}
 use Rattle.local_files.specs.declared.Phase.{Phase}
-use Rattle.local_files.specs.declared.Phase.TheVariants.{TakeRead, TakeWrite, AddRead, AddWrite, NewRead}
 use Rattle.local_files.specs.Hands.{put_bytes}
 use Rattle.local_files.specs.Putting.{IsTake, IsTakeWrite, IsFilled}
-use Rattle.local_files.specs.Steps.{answered, at_byte, piece}
+use Rattle.local_files.specs.Steps.{answered, at_byte, piece, going_on}
 use Rattle.local_files.specs.Standing.{Stands, InHand, GoesTo, call_bytes}
 use Rattle.local_files.proofs.Closings.{put_whole}
 use Rattle.xinu_model.specs.Files.Writing.{overwritten}
@@ -27,16 +26,18 @@ use Rattle.file_laws.specs.Middle.{IsMiddle}
 use Rattle.file_laws.proofs.Middles.{middle_held}
 use Rattle.file_laws.proofs.Reached.{free_data_some, middle_data_taken, free_index_some, free_index_first}
 use Rattle.local_files.proofs.Closings.{put_whole}
-use Rattle.local_files.proofs.Freeing.{standing}
 use Rattle.std.proofs.lemmas.List.{take_at}
 use Rattle.local_files.proofs.CutSteps.{index_on_disk}
 use Rattle.file_laws.proofs.Patched.{held_range, times_first}
-use Rattle.local_files.specs.Puts.{take_read, take_written, newing, added_index, add_read}
+use Rattle.local_files.specs.Puts.{take_read, take_written, added_index, add_read}
 use Rattle.local_files.proofs.PutSteps.{put_changed, put_kept}
 use Rattle.local_files.proofs.Pieces.{IsPiece, piece_is, piece_bytes, patched_is}
+use Rattle.local_files.proofs.Standing.{with_block, with_disk}
+use Rattle.local_files.specs.declared.Phase.TheVariants.{Wants}
+use Rattle.local_files.specs.declared.Purpose.TheVariants.{TakeRead, TakeWrite, AddRead, AddWrite, NewRead}
 
 -- The free data block was read: it is taken.
-pub take_read_goes : (e e' : Files) (b : ℕ) (base disk read : List ℕ) → e.phase ≡ TakeRead b → e' ≡ take_read b (word_of read) e
+pub take_read_goes : (e e' : Files) (b : ℕ) (base disk read : List ℕ) → e.phase ≡ Wants (TakeRead b) → e' ≡ take_read b (word_of read) e
     → length e'.block ≡ 512 → Stands e base disk → read ≡ block_in disk b → GoesTo e'.phase e.call (call_bytes e) e e' base disk
 take_read_goes e e' b base disk read phase new wide s honest =
     let H : Phase → Type 0 = λ p. InHand p e base disk in
@@ -55,14 +56,7 @@ take_read_goes e e' b base disk read phase new wide s honest =
     let P : Files → Type 0 = λ x. GoesTo x.phase e.call (call_bytes e) e x base disk in
     subst P (sym new) (
       record {
-        clean = s.clean;
-        blocks = s.blocks;
-        whole = s.whole;
-        six = s.six;
-        buffer = s.buffer;
-        outgoing = sym (ap (λ (x : Files). length x.block) new) ∙ wide;
-        device = s.device;
-        apart = s.apart;
+        standing = with_block s.standing (sym (ap (λ (x : Files). length x.block) new) ∙ wide);
         hand = record {
           block = refl;
           taken = record {
@@ -74,7 +68,7 @@ take_read_goes e e' b base disk read phase new wide s honest =
             reached = h.reached;
             index = h.index;
             cursor = record { below = r.cursor.below; at = r.cursor.at; index = r.cursor.index };
-            putting = put_changed e (TakeWrite b) e.index e2.header e.at e.reached e2.block base disk disk p p2 u refl middle;
+            putting = put_changed e (Wants (TakeWrite b)) e.index e2.header e.at e.reached e2.block base disk disk p p2 u refl middle;
           };
         };
       },
@@ -84,10 +78,10 @@ take_read_goes e e' b base disk read phase new wide s honest =
     )
 
 -- It is written with the bytes.
-pub take_written_goes : (e e' : Files) (b : ℕ) (base disk : List ℕ) → e.phase ≡ TakeWrite b → e' ≡ take_written b e → Stands e base disk
+pub take_written_goes : (e e' : Files) (b : ℕ) (base disk : List ℕ) → e.phase ≡ Wants (TakeWrite b) → e' ≡ take_written b e → Stands e base disk
     → GoesTo e'.phase e.call (call_bytes e) e e' base (block_put disk b e.block)
 take_written_goes e e' b base disk phase new s = subst P (sym new) (either-way (at_byte e % 8192 == 0)
-    (λ v. (at_byte e % 8192 == 0) ≡ v → P (if v then newing b e.header.free_index e else (let y : Files = record e { phase = AddRead b } in
+    (λ v. (at_byte e % 8192 == 0) ≡ v → P (if v then going_on (NewRead b e.header.free_index) e else (let y : Files = record e { phase = Wants (AddRead b) } in
     y)))
     (λ _ t. (let z : at_byte e % 8192 ≡ 0 = grind (arith, nat_tests) in
     let some = h.taken.index z in let i = e.header.free_index in
@@ -95,19 +89,12 @@ take_written_goes e e' b base disk phase new s = subst P (sym new) (either-way (
     (drop 1 h.taken.places.free_index) h.taken.putting.middle
     (free_index_some e.blocks base disk e.header e.slot e.entry h.taken.places bytes h.taken.putting.middle some) in
     let on : nat_lt (6 + i / 7) e.blocks ≡ true = index_on_disk e.blocks i h.taken.putting.middle.low f.below in
-    let e2 : Files = record e { phase = NewRead b i } in
+    let e2 : Files = record e { phase = Wants (NewRead b i) } in
     let Q : Bool → Type 0 = λ v. P (if v then e2 else answered (negsuc 0) e) in
     subst Q (sym on) (
       record {
-        clean = s.clean;
-        blocks = s.blocks;
-        whole = whole;
-        six = s.six;
-        buffer = s.buffer;
-        outgoing = s.outgoing;
-        device = s.device;
-        apart = s.apart;
-        hand = (filled (NewRead b i), (z, refl));
+        standing = with_disk s.standing whole;
+        hand = (filled (Wants (NewRead b i)), (z, refl));
       },
       refl,
       refl,
@@ -115,15 +102,8 @@ take_written_goes e e' b base disk phase new s = subst P (sym new) (either-way (
     )))
     (λ _ t. (
       record {
-        clean = s.clean;
-        blocks = s.blocks;
-        whole = whole;
-        six = s.six;
-        buffer = s.buffer;
-        outgoing = s.outgoing;
-        device = s.device;
-        apart = s.apart;
-        hand = (filled (AddRead b), λ z. false≢true (sym t ∙ ap (λ k. k == 0) z));
+        standing = with_disk s.standing whole;
+        hand = (filled (Wants (AddRead b)), λ z. false≢true (sym t ∙ ap (λ k. k == 0) z));
       },
       refl,
       refl,
@@ -151,7 +131,7 @@ take_written_goes e e' b base disk phase new s = subst P (sym new) (either-way (
     whole = put_whole e base disk b s range.1
 
     f : IsPiece e (e.position + e.done)
-    f = piece_is e base disk h.taken.places (standing e base disk s) h.taken.putting h.taken.left
+    f = piece_is e base disk h.taken.places s.standing h.taken.putting h.taken.left
 
     middle : IsMiddle e.blocks base (block_put disk b e.block) e.header e.slot e.entry h.taken.places bytes
     middle = middle_held e.blocks base disk e.header e.slot e.entry h.taken.places bytes b e.block h.taken.putting.middle
@@ -199,7 +179,7 @@ filled_kept e ph blk b base disk h = record {
 }
 
 -- The last index block was read: it gets the number.
-pub add_read_goes : (e e' : Files) (b : ℕ) (base disk read : List ℕ) → e.phase ≡ AddRead b → e' ≡ add_read b e'.block e
+pub add_read_goes : (e e' : Files) (b : ℕ) (base disk read : List ℕ) → e.phase ≡ Wants (AddRead b) → e' ≡ add_read b e'.block e
     → IsIndexPut read (e.at % 7) (added_index b e) e'.block → Stands e base disk → read ≡ block_in disk (6 + e.at / 7)
     → GoesTo e'.phase e.call (call_bytes e) e e' base disk
 add_read_goes e e' b base disk read phase new put s honest =
@@ -209,16 +189,9 @@ add_read_goes e e' b base disk read phase new put s honest =
     let P : Files → Type 0 = λ x. GoesTo x.phase e.call (call_bytes e) e x base disk in
     subst P (sym new) (
       record {
-        clean = s.clean;
-        blocks = s.blocks;
-        whole = s.whole;
-        six = s.six;
-        buffer = s.buffer;
-        outgoing = put.long;
-        device = s.device;
-        apart = s.apart;
+        standing = with_block s.standing put.long;
         hand = record {
-          filled = filled_kept e (AddWrite b) e'.block b base disk h.0;
+          filled = filled_kept e (Wants (AddWrite b)) e'.block b base disk h.0;
           room = h.1;
           put = subst R honest put;
         };

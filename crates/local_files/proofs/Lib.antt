@@ -1,3 +1,4 @@
+pub mod Standing
 pub mod Devices
 pub mod Beginning
 pub mod Closings

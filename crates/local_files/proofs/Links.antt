@@ -17,21 +17,22 @@ use Rattle.lfs_format.specs.Indexes.{index_at, IsIndexPut}
 use Rattle.lfs_check.specs.Laid.{Places, numbers_at, index_for}
 use Rattle.file_laws.specs.Middle.{IsMiddle}
 use Rattle.local_files.proofs.Closings.{put_whole}
-use Rattle.local_files.proofs.Freeing.{standing}
 use Rattle.local_files.specs.Puts.{next_put, put_done}
 use Rattle.local_files.proofs.Putting.{put_open, put_small}
 use Rattle.local_files.proofs.PutSteps.{put_kept, target_end}
 use Rattle.local_files.proofs.Pieces.{after_goes, piece_is, piece_bytes}
-use Rattle.local_files.specs.declared.Phase.TheVariants.{LinkRead, LinkWrite}
 use Rattle.local_files.specs.Putting.{IsLink, IsLinkWrite}
 use Rattle.local_files.specs.Puts.{fresh_index, followed, link_read, linked_index}
 use Rattle.local_files.proofs.Putting.{put_small, put_open}
 use Rattle.local_files.proofs.Adds.{growing, slot_lists, append_last}
 use Rattle.file_laws.proofs.Patched.{middle_continued}
 use Rattle.local_files.proofs.NewBlocks.{next_index, named_index}
+use Rattle.local_files.proofs.Standing.{with_block}
+use Rattle.local_files.specs.declared.Phase.TheVariants.{Wants}
+use Rattle.local_files.specs.declared.Purpose.TheVariants.{LinkRead, LinkWrite}
 
 -- The last index block was read: it is to name the new one.
-pub link_read_goes : (e e' : Files) (b i : ℕ) (base disk read : List ℕ) → e.phase ≡ LinkRead b i → e' ≡ link_read b i e'.block e
+pub link_read_goes : (e e' : Files) (b i : ℕ) (base disk read : List ℕ) → e.phase ≡ Wants (LinkRead b i) → e' ≡ link_read b i e'.block e
     → IsIndexPut read (e.at % 7) (linked_index i (index_at (e.at % 7) read)) e'.block → Stands e base disk
     → read ≡ block_in disk (6 + e.at / 7)
     → GoesTo e'.phase e.call (call_bytes e) e e' base disk
@@ -43,14 +44,7 @@ link_read_goes e e' b i base disk read phase new put s honest =
     let P : Files → Type 0 = λ x. GoesTo x.phase e.call (call_bytes e) e x base disk in
     subst P (sym new) (
       record {
-        clean = s.clean;
-        blocks = s.blocks;
-        whole = s.whole;
-        six = s.six;
-        buffer = s.buffer;
-        outgoing = put.long;
-        device = s.device;
-        apart = s.apart;
+        standing = with_block s.standing put.long;
         hand = record {
           put = subst R honest put;
           link = record {
@@ -66,7 +60,7 @@ link_read_goes e e' b i base disk read phase new put s honest =
               whole = n.whole;
               filled = n.filled;
               cursor = record { below = n.cursor.below; at = n.cursor.at; index = n.cursor.index };
-              putting = put_kept e (LinkWrite b i) e.index e.at e.reached e'.block base disk n.places u;
+              putting = put_kept e (Wants (LinkWrite b i)) e.index e.at e.reached e'.block base disk n.places u;
             };
           };
         };
@@ -77,13 +71,13 @@ link_read_goes e e' b i base disk read phase new put s honest =
     )
 
 -- It is written.
-pub link_written_goes : (e e' : Files) (b i : ℕ) (base disk : List ℕ) → e.phase ≡ LinkWrite b i → e' ≡ next_put (put_done (followed b i e))
+pub link_written_goes : (e e' : Files) (b i : ℕ) (base disk : List ℕ) → e.phase ≡ Wants (LinkWrite b i) → e' ≡ next_put (put_done (followed b i e))
     → Stands e base disk → GoesTo e'.phase e.call (call_bytes e) e e' base (block_put disk (6 + e.at / 7) e.block)
 link_written_goes e e' b i base disk phase new s =
     let H : Phase → Type 0 = λ p. InHand p e base disk in
     let h : IsLinkWrite e b i base disk = subst H phase s.hand in
     let n = h.link.new in let p = n.places in let u = n.putting in
-    let st = standing e base disk s in
+    let st = s.standing in
     let g = growing e base disk p st u n.left n.ends in
     let f = piece_is e base disk p st u n.left in
     let chain = numbers_at p.chains e.slot in let blocks = numbers_at p.datas e.slot in

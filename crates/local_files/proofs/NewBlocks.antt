@@ -7,7 +7,6 @@ use Rattle.lfs_check.proofs.BlockPuts.{put_same, put_other}
 use Rattle.file_laws.specs.StoredFiles.{entry_bytes}
 use Rattle.local_files.specs.declared.Files.{Files}
 use Rattle.local_files.specs.declared.Phase.{Phase}
-use Rattle.local_files.specs.declared.Phase.TheVariants.{NewRead}
 use Rattle.local_files.specs.Hands.{put_bytes}
 use Rattle.local_files.specs.Putting.{IsPutting, IsAt}
 use Rattle.local_files.specs.Steps.{at_byte, piece}
@@ -25,13 +24,12 @@ use Rattle.lfs_check.specs.Disks.{disk_geometry}
 use Rattle.file_laws.specs.Middle.{IsMiddle}
 use Rattle.file_laws.proofs.Reached.{free_index_some}
 use Rattle.local_files.proofs.Closings.{put_whole}
-use Rattle.local_files.proofs.Freeing.{standing, some_at, none_at}
+use Rattle.local_files.proofs.Freeing.{some_at, none_at}
 use Rattle.std.proofs.lemmas.List.{drop_at}
 use Rattle.file_laws.proofs.Patched.{held_range, times_first}
 use Rattle.local_files.specs.Puts.{next_put, put_done}
 use Rattle.local_files.proofs.PutSteps.{put_changed}
 use Rattle.local_files.proofs.Pieces.{after_goes, piece_is, piece_bytes}
-use Rattle.local_files.specs.declared.Phase.TheVariants.{NewWrite, LinkRead}
 use Rattle.local_files.specs.Putting.{IsNew, IsNewWrite}
 use Rattle.local_files.specs.Puts.{fresh_index, new_read, new_written, followed, linked_index}
 use Rattle.file_laws.proofs.Reached.{index_below}
@@ -41,9 +39,12 @@ use Rattle.file_laws.proofs.Freed.{middle_index_held}
 use Rattle.file_laws.proofs.Patched.{middle_started}
 use Rattle.lfs_check.proofs.Steps.{index_for-more}
 use Rattle.lfs_check.proofs.KeepsAll.{either-way}
+use Rattle.local_files.proofs.Standing.{with_block, with_disk}
+use Rattle.local_files.specs.declared.Phase.TheVariants.{Wants}
+use Rattle.local_files.specs.declared.Purpose.TheVariants.{NewRead, NewWrite, LinkRead}
 
 -- The free index block was read: it is to be written with the number.
-pub new_read_goes : (e e' : Files) (b i : ℕ) (base disk read : List ℕ) → e.phase ≡ NewRead b i
+pub new_read_goes : (e e' : Files) (b i : ℕ) (base disk read : List ℕ) → e.phase ≡ Wants (NewRead b i)
     → e' ≡ new_read b i (index_at (i % 7) read) e'.block e → IsIndexPut read (i % 7) (fresh_index b e) e'.block → Stands e base disk
     → read ≡ block_in disk (6 + i / 7)
     → GoesTo e'.phase e.call (call_bytes e) e e' base disk
@@ -65,14 +66,7 @@ new_read_goes e e' b i base disk read phase new put s honest =
     let P : Files → Type 0 = λ x. GoesTo x.phase e.call (call_bytes e) e x base disk in
     subst P (sym new) (
       record {
-        clean = s.clean;
-        blocks = s.blocks;
-        whole = s.whole;
-        six = s.six;
-        buffer = s.buffer;
-        outgoing = put.long;
-        device = s.device;
-        apart = s.apart;
+        standing = with_block s.standing put.long;
         hand = record {
           put = subst R honest put;
           new = record {
@@ -85,7 +79,7 @@ new_read_goes e e' b i base disk read phase new put s honest =
             whole = z;
             filled = h.0.filled;
             cursor = record { below = k.cursor.below; at = k.cursor.at; index = k.cursor.index };
-            putting = put_changed e (NewWrite b i) e.index (record e.header { free_index = (index_at (i % 7) read).next }) e.at e.reached
+            putting = put_changed e (Wants (NewWrite b i)) e.index (record e.header { free_index = (index_at (i % 7) read).next }) e.at e.reached
                 e'.block base disk disk p p2 u refl middle;
           };
         };
@@ -136,21 +130,14 @@ named_index j b i chain blocks long size =
     x) (sym named) ∙ sym (index_for-more j (chain ++ i ∷ []) blocks (b ∷ []) (omega (arith, size)))
 
 -- The index block is written: it is the file's first, or the last one is to name it.
-pub new_written_goes : (e e' : Files) (b i : ℕ) (base disk : List ℕ) → e.phase ≡ NewWrite b i → e' ≡ new_written b i e → Stands e base disk
+pub new_written_goes : (e e' : Files) (b i : ℕ) (base disk : List ℕ) → e.phase ≡ Wants (NewWrite b i) → e' ≡ new_written b i e → Stands e base disk
     → GoesTo e'.phase e.call (call_bytes e) e e' base (block_put disk (6 + i / 7) e.block)
 new_written_goes e e' b i base disk phase new s = subst P (sym new) (either-way (at_byte e == 0)
     (λ v. (at_byte e == 0) ≡ v → P (if v then next_put (put_done x) else e2))
     (λ _ t. (let zero_at : at_byte e ≡ 0 = grind (arith, nat_tests) in first zero_at))
     (λ _ t. (let some : 0 < at_byte e = grind (arith, nat_tests) in (
       record {
-        clean = s.clean;
-        blocks = s.blocks;
-        whole = whole;
-        six = s.six;
-        buffer = s.buffer;
-        outgoing = s.outgoing;
-        device = s.device;
-        apart = s.apart;
+        standing = with_disk s.standing whole;
         hand = record {
           some = some;
           written = written;
@@ -164,7 +151,7 @@ new_written_goes e e' b i base disk phase new s = subst P (sym new) (either-way 
             whole = n.whole;
             filled = filled;
             cursor = record { below = n.cursor.below; at = n.cursor.at; index = n.cursor.index };
-            putting = put_changed e (LinkRead b i) e.index e.header e.at e.reached e.block base disk made n.places n.places u refl middle;
+            putting = put_changed e (Wants (LinkRead b i)) e.index e.header e.at e.reached e.block base disk made n.places n.places u refl middle;
           };
         };
       },
@@ -184,7 +171,7 @@ new_written_goes e e' b i base disk phase new s = subst P (sym new) (either-way 
     x = followed b i (record e { entry = record e.entry { first = i } })
 
     e2 : Files
-    e2 = record e { phase = LinkRead b i }
+    e2 = record e { phase = Wants (LinkRead b i) }
 
     h : IsNewWrite e b i base disk
     h = let H : Phase → Type 0 = λ p. InHand p e base disk in subst H phase s.hand
@@ -221,7 +208,7 @@ new_written_goes e e' b i base disk phase new s = subst P (sym new) (either-way 
 
     first : at_byte e ≡ 0 → P (next_put (put_done x))
     first z =
-        let st = standing e base disk s in
+        let st = s.standing in
         let g = growing e base disk n.places st u n.left n.ends in
         let f = piece_is e base disk n.places st u n.left in
         let long = f.long in let fits = f.fits in let psome = f.some in let grown = g.grown in let at = g.at in

@@ -15,19 +15,20 @@ use Rattle.local_files.specs.declared.Files.{Files}
 use Rattle.local_files.specs.declared.BlockWork.{BlockWork}
 use Rattle.local_files.specs.declared.BlockWork.TheVariants as work
 use Rattle.local_files.specs.declared.Phase.{Phase}
-use Rattle.local_files.specs.declared.Phase.TheVariants.{Idle, Done, Search, Walk, Fetch, Counts, Reach, PatchRead, PatchWrite, TakeRead, TakeWrite, AddRead, AddWrite, NewRead, NewWrite, LinkRead, LinkWrite, CutRead, CutWrite, FreeWrite, EntryRead, EntryWrite, HeaderRead, HeaderWrite}
 use Rattle.local_files.specs.Hands.{put_bytes, IsReading, IsCutRead}
 use Rattle.local_files.specs.Putting.{IsPutting, IsPatch, IsFilled, IsNew, IsAt}
 use Rattle.local_files.specs.Puts.{target}
 use Rattle.local_files.specs.Steps.{at_byte, is_truncate}
-use Rattle.local_files.specs.Standing.{Stands, InHand, wanted, wanted_in, served, served_by}
+use Rattle.local_files.specs.Standing.{Stands, InHand, wanted, wanted_in, served, served_by, IsStanding}
 use Rattle.local_files.specs.Bounds.{left, left_in, cut_left, put_left}
 use Rattle.std.proofs.Common.{if◌then◌else◌}
 use Rattle.local_files.specs.Resting.{IsOnDisk, ChangesOneBlock}
 use Rattle.local_files.proofs.Closings.{blocks_many}
-use Rattle.local_files.proofs.Freeing.{IsStanding, standing}
 use Rattle.local_files.proofs.Taking.{reading_file}
 use Rattle.local_files.proofs.PutSteps.{inside_is}
+use Rattle.local_files.proofs.Standing.{at_base}
+use Rattle.local_files.specs.declared.Phase.TheVariants.{Idle, Done, Wants}
+use Rattle.local_files.specs.declared.Purpose.TheVariants.{Search, Walk, Fetch, Counts, Reach, PatchRead, PatchWrite, TakeRead, TakeWrite, AddRead, AddWrite, NewRead, NewWrite, LinkRead, LinkWrite, CutRead, CutWrite, FreeWrite, EntryRead, EntryWrite, HeaderRead, HeaderWrite}
 
 -- the disk block of an index block
 index_block : (n i : ℕ) → 14 ≤ n → i < index_count (disk_geometry n) → 6 + i / 7 < n
@@ -35,23 +36,14 @@ index_block n i low h = omega (arith, low, h)
 
 module _ (e : Files) (base disk : List ℕ) (s : Stands e base disk) where
   st : IsStanding e base disk
-  st = standing e base disk s
+  st = s.standing
 
   low : 14 ≤ e.blocks
   low = (blocks_many e base disk s).0
 
   -- the file that is read
   read_by : (r : IsReading e base disk) → IsReadBy e.blocks base r.file.entry (entry_chain base r.file.entry) (entry_data base r.file.entry)
-  read_by r = reading_file e base (record {
-    clean = s.clean;
-    blocks = s.blocks;
-    whole = refl;
-    six = s.six;
-    outgoing = s.outgoing;
-    buffer = s.buffer;
-    device = s.device;
-    apart = s.apart;
-  }) (record {
+  read_by r = reading_file e base (at_base s.standing) (record {
     same = refl;
     some = r.some;
     few = r.few;
@@ -112,50 +104,50 @@ module _ (e : Files) (base disk : List ℕ) (s : Stands e base disk) where
   in_phase : (p : Phase) → InHand p e base disk → IsOnDisk (wanted_in p e) e.blocks
   in_phase Idle h = tt
   in_phase (Done r) h = tt
-  in_phase (Search d) h = let b = h.block in omega (arith, b, low)
-  in_phase (Walk rest at) h =
+  in_phase (Wants (Search d)) h = let b = h.block in omega (arith, b, low)
+  in_phase (Wants (Walk rest at)) h =
       let r = h.reading in let f = read_by r in let here = h.here in let few = h.few in
       let l = f.chain_long in let w = r.within in let t = r.total in let d = r.left in
       let b = (f.index ((r.file.position + e.done) / 8192 - rest) (omega (arith, l, w, t, d))).below in
       omega (arith, here, b, low)
-  in_phase (Fetch k) h =
+  in_phase (Wants (Fetch k)) h =
       let r = h.reading in let f = read_by r in let here = h.here in
       let l = f.blocks_long in let w = r.within in let t = r.total in let d = r.left in
       let b = (f.block ((r.file.position + e.done) / 512) (omega (arith, l, w, t, d))).1 in
       omega (arith, here, b)
-  in_phase Counts h = omega (arith, low)
-  in_phase (Reach rest at) h =
+  in_phase (Wants Counts) h = omega (arith, low)
+  in_phase (Wants (Reach rest at)) h =
       let here = h.here in let t = h.below in
       let b = ((put_by h.ready.places h.ready.putting).index (target e - rest) (omega (arith, t))).below in
       omega (arith, here, b, low)
-  in_phase (PatchRead k) h = patch_block k h
-  in_phase (PatchWrite k) h = patch_block k h.patch
-  in_phase (TakeRead k) h =
+  in_phase (Wants (PatchRead k)) h = patch_block k h
+  in_phase (Wants (PatchWrite k)) h = patch_block k h.patch
+  in_phase (Wants (TakeRead k)) h =
       let r = h.ready in let p = r.places in let m = r.putting.middle in let some = h.some in let head = h.head in
       let f = free_data_first e.blocks base disk e.header e.slot e.entry p bytes e.header.free_data (drop 1 p.free_data) m
       (free_data_some e.blocks base disk e.header e.slot e.entry p bytes m (λ z. some (sym head ∙ z))) in
       let high = f.high in omega (arith, high, head)
-  in_phase (TakeWrite k) h = (held_range e.blocks base disk e.header e.slot e.entry h.taken.places bytes k h.taken.putting.middle
+  in_phase (Wants (TakeWrite k)) h = (held_range e.blocks base disk e.header e.slot e.entry h.taken.places bytes k h.taken.putting.middle
       (times_first k h.taken.places.held_data [] h.taken.held)).1
-  in_phase (AddRead k) h = add_block k h.0 h.1
-  in_phase (AddWrite k) h = add_block k h.filled h.room
-  in_phase (NewRead k i) h =
+  in_phase (Wants (AddRead k)) h = add_block k h.0 h.1
+  in_phase (Wants (AddWrite k)) h = add_block k h.filled h.room
+  in_phase (Wants (NewRead k i)) h =
       let t = h.0.taken in let p = t.places in let m = t.putting.middle in let head = h.1.1 in
       let f = free_index_first e.blocks base disk e.header e.slot e.entry p bytes e.header.free_index (drop 1 p.free_index) m
       (free_index_some e.blocks base disk e.header e.slot e.entry p bytes m (t.index h.1.0)) in
       let b = f.below in omega (arith, b, head, low)
-  in_phase (NewWrite k i) h =
+  in_phase (Wants (NewWrite k i)) h =
       let n = h.new in let one = n.putting.middle.laid.one_index i in let t = times_first i n.places.held_index [] n.held_index in
       index_block e.blocks i low (index_below (index_count (disk_geometry e.blocks)) i (omega (arith, one, t)))
-  in_phase (LinkRead k i) h = link_block k i h.new h.some
-  in_phase (LinkWrite k i) h = link_block k i h.link.new h.link.some
-  in_phase CutRead h = cut_block h
-  in_phase CutWrite h = cut_block h.read
-  in_phase (FreeWrite k) h = let b = h.cutting.numbers (16 * (e.reached - 1) + e.freed) h.below in let here = h.here in omega (arith, b, here)
-  in_phase EntryRead h = let b = h.slot in omega (arith, b, low)
-  in_phase EntryWrite h = let b = h.slot in omega (arith, b, low)
-  in_phase HeaderRead h = omega (arith, low)
-  in_phase HeaderWrite h = omega (arith, low)
+  in_phase (Wants (LinkRead k i)) h = link_block k i h.new h.some
+  in_phase (Wants (LinkWrite k i)) h = link_block k i h.link.new h.link.some
+  in_phase (Wants CutRead) h = cut_block h
+  in_phase (Wants CutWrite) h = cut_block h.read
+  in_phase (Wants (FreeWrite k)) h = let b = h.cutting.numbers (16 * (e.reached - 1) + e.freed) h.below in let here = h.here in omega (arith, b, here)
+  in_phase (Wants EntryRead) h = let b = h.slot in omega (arith, b, low)
+  in_phase (Wants EntryWrite) h = let b = h.slot in omega (arith, b, low)
+  in_phase (Wants HeaderRead) h = omega (arith, low)
+  in_phase (Wants HeaderWrite) h = omega (arith, low)
 
   -- what is wanted is on the disk
   pub wanted_within : IsOnDisk (wanted e) e.blocks
@@ -183,27 +175,27 @@ module _ (e : Files) (base disk : List ℕ) (s : Stands e base disk) where
       by_phase : (p : Phase) → IsSome (wanted_in p e) → InHand p e base disk → 1 ≤ left_in p e base
       by_phase Idle w h = absurd (false≢true w)
       by_phase (Done r) w h = absurd (false≢true w)
-      by_phase (Search d) w h = omega arith
-      by_phase (Walk rest at) w h = omega arith
-      by_phase (Fetch b) w h = let d = h.reading.left in omega (arith, d)
-      by_phase Counts w h = either-way (is_truncate e.call)
+      by_phase (Wants (Search d)) w h = omega arith
+      by_phase (Wants (Walk rest at)) w h = omega arith
+      by_phase (Wants (Fetch b)) w h = let d = h.reading.left in omega (arith, d)
+      by_phase (Wants Counts) w h = either-way (is_truncate e.call)
           (λ v. 1 ≤ (if v then 1 + cut_left (entry_at base e.slot).size 0 0 else e.position / 8192 + 8 + put_left e)) (λ _. omega arith)
           (λ _. omega arith)
-      by_phase (Reach rest at) w h = omega arith
-      by_phase (PatchRead b) w h = omega arith
-      by_phase (PatchWrite b) w h = omega arith
-      by_phase (TakeRead b) w h = omega arith
-      by_phase (TakeWrite b) w h = omega arith
-      by_phase (AddRead b) w h = omega arith
-      by_phase (AddWrite b) w h = omega arith
-      by_phase (NewRead b i) w h = omega arith
-      by_phase (NewWrite b i) w h = omega arith
-      by_phase (LinkRead b i) w h = omega arith
-      by_phase (LinkWrite b i) w h = omega arith
-      by_phase CutRead w h = omega arith
-      by_phase CutWrite w h = omega arith
-      by_phase (FreeWrite b) w h = omega arith
-      by_phase EntryRead w h = omega arith
-      by_phase EntryWrite w h = omega arith
-      by_phase HeaderRead w h = omega arith
-      by_phase HeaderWrite w h = omega arith
+      by_phase (Wants (Reach rest at)) w h = omega arith
+      by_phase (Wants (PatchRead b)) w h = omega arith
+      by_phase (Wants (PatchWrite b)) w h = omega arith
+      by_phase (Wants (TakeRead b)) w h = omega arith
+      by_phase (Wants (TakeWrite b)) w h = omega arith
+      by_phase (Wants (AddRead b)) w h = omega arith
+      by_phase (Wants (AddWrite b)) w h = omega arith
+      by_phase (Wants (NewRead b i)) w h = omega arith
+      by_phase (Wants (NewWrite b i)) w h = omega arith
+      by_phase (Wants (LinkRead b i)) w h = omega arith
+      by_phase (Wants (LinkWrite b i)) w h = omega arith
+      by_phase (Wants CutRead) w h = omega arith
+      by_phase (Wants CutWrite) w h = omega arith
+      by_phase (Wants (FreeWrite b)) w h = omega arith
+      by_phase (Wants EntryRead) w h = omega arith
+      by_phase (Wants EntryWrite) w h = omega arith
+      by_phase (Wants HeaderRead) w h = omega arith
+      by_phase (Wants HeaderWrite) w h = omega arith

@@ -25,7 +25,6 @@ use Rattle.local_files.specs.declared.Files.{Files}
 use Rattle.local_files.specs.declared.FileCall.{FileCall}
 use Rattle.local_files.specs.declared.FileCall.TheVariants.{Open, Delete, Close, Read, Write, Getc, Putc, Seek, Truncate, Size}
 use Rattle.local_files.specs.declared.Phase.{Phase}
-use Rattle.local_files.specs.declared.Phase.TheVariants.{Search, EntryRead}
 use Rattle.local_files.specs.Hands.{system, IsSearch, IsFreeSlot, IsMade, IsEnding, IsCall, name_of, put_bytes, files_after, MayLook}
 use Rattle.local_files.specs.Steps.{answered}
 use Rattle.local_files.specs.Standing.{Stands, InHand, GoesTo, given_bytes, call_bytes}
@@ -34,6 +33,9 @@ use Rattle.local_files.proofs.Closings.{blocks_many}
 use Rattle.xinu_model.specs.Files.Opening as model_opening
 use Rattle.file_laws.proofs.Effects.{delete_refused}
 use Rattle.local_files.proofs.Searching.{opening_of, begins_stored, none_of, head}
+use Rattle.local_files.proofs.Standing.{at_base}
+use Rattle.local_files.specs.declared.Phase.TheVariants.{Wants}
+use Rattle.local_files.specs.declared.Purpose.TheVariants.{Search, EntryRead}
 
 -- what is known after one more block
 record Passed (e : Files) (d slot : ℕ) (base : List ℕ) : Type 0 where
@@ -92,21 +94,14 @@ missing_open e name mode slot header base call right look s none free counts =
     let absent : file_named (bare_name name) (stored_files base) ≡ None = named_none base name s.clean n none in
     let start = begins_stored e name mode base None look absent in
     let e1 : Files = record e { header = header; slot = slot } in
-    let e2 : Files = record e1 { entry = empty_entry name; header = one_more header; phase = EntryRead } in
+    let e2 : Files = record e1 { entry = empty_entry name; header = one_more header; phase = Wants EntryRead } in
     let to : Bool → Bool → FileEffect = λ u v.
     if u || v then refused_effect sys else model_opening.opened (bare_name name) mode (with_created (bare_name name) sys) in
     let len = (length_entries base s.clean).0 in
     let count = files_counted base s.clean in
     let refused : Stands (answered (negsuc 0) e1) base base =
     record {
-      clean = s.clean;
-      blocks = s.blocks;
-      whole = refl;
-      six = s.six;
-      buffer = s.buffer;
-      outgoing = s.outgoing;
-      device = s.device;
-      apart = s.apart;
+      standing = at_base s.standing;
       hand = refl;
     } in
     let G : Bool → Bool → Type 0 = λ u v.
@@ -138,14 +133,7 @@ missing_open e name mode slot header base call right look s none free counts =
       others = m.others;
     }) in (
       record {
-        clean = s.clean;
-        blocks = s.blocks;
-        whole = refl;
-        six = s.six;
-        buffer = s.buffer;
-        outgoing = s.outgoing;
-        device = s.device;
-        apart = s.apart;
+        standing = at_base s.standing;
         hand = record {
           slot = low;
           made = becomes;
@@ -193,20 +181,13 @@ missing_delete e name slot header base right s none =
     let n : IsName name = record { padded = name_padded 27 name right.0; long = right.1 } in (
       delete_refused (bare_name name) [] (system e base) (named_none base name s.clean n none),
       record {
-        clean = s.clean;
-        blocks = s.blocks;
-        whole = refl;
-        six = s.six;
-        buffer = s.buffer;
-        outgoing = s.outgoing;
-        device = s.device;
-        apart = s.apart;
+        standing = at_base s.standing;
         hand = refl;
       },
     )
 
 -- what the code leaves, if the name isn't in block d
-pub pass_goes : (e e' : Files) (d : ℕ) (header : Header) (name base disk read : List ℕ) → e.phase ≡ Search d
+pub pass_goes : (e e' : Files) (d : ℕ) (header : Header) (name base disk read : List ℕ) → e.phase ≡ Wants (Search d)
     → header ≡ (if d == 0 then header_2 (dir_of read) else e.header)
     → e' ≡ searching_on d (record e { header = header; slot = e'.slot }) → (IsLook e.call → name ≡ name_of e.call)
     → ((k : ℕ) → k < 13 → is_this name (slice_index_or (dir_of read).entries k void_entry) ≡ false)
@@ -215,19 +196,12 @@ pub pass_goes : (e e' : Files) (d : ℕ) (header : Header) (name base disk read 
 pass_goes e e' d header name base disk read phase counts new named not_here noted s honest =
     let P : List ℕ → Type 0 = λ x. GoesTo e'.phase e.call (call_bytes e) e e' base x in
     let Q : Files → Type 0 = λ x. GoesTo x.phase e.call (call_bytes e) e x base base in
-    let next : Files = record e1 { phase = Search (d + 1) } in
+    let next : Files = record e1 { phase = Wants (Search (d + 1)) } in
     subst P (sym hand.same) (subst Q (sym new) (either-way (nat_lt d 5)
     (λ v. nat_lt d 5 ≡ v → Q (if v then next else missing e.call e1))
     (λ _ t. (
       record {
-        clean = s.clean;
-        blocks = s.blocks;
-        whole = refl;
-        six = s.six;
-        buffer = s.buffer;
-        outgoing = s.outgoing;
-        device = s.device;
-        apart = s.apart;
+        standing = at_base s.standing;
         hand = record {
           same = refl;
           block = (let lt : d < 5 = grind (arith, nat_tests) in omega (arith, lt));
@@ -294,14 +268,7 @@ pass_goes e e' d header name base disk read phase counts new named not_here note
 
     idle : Stands (answered (pos 0) e) base base
     idle = record {
-      clean = s.clean;
-      blocks = s.blocks;
-      whole = refl;
-      six = s.six;
-      buffer = s.buffer;
-      outgoing = s.outgoing;
-      device = s.device;
-      apart = s.apart;
+      standing = at_base s.standing;
       hand = refl;
     }
 

@@ -8,11 +8,10 @@ use Rattle.file_laws.specs.StoredFiles.{entry_bytes}
 use Rattle.file_laws.proofs.Named.{bytes_sized}
 use Rattle.local_files.specs.declared.Files.{Files}
 use Rattle.local_files.specs.declared.Phase.{Phase}
-use Rattle.local_files.specs.declared.Phase.TheVariants.{Reach, PatchRead, PatchWrite}
 use Rattle.local_files.specs.Hands.{put_bytes}
 use Rattle.local_files.specs.Putting.{IsPutting, IsReady, IsAt, IsReach, IsPatch, IsPatched}
 use Rattle.local_files.specs.Steps.{answered, at_byte, piece}
-use Rattle.local_files.specs.Standing.{Stands, InHand, GoesTo, call_bytes}
+use Rattle.local_files.specs.Standing.{Stands, InHand, GoesTo, call_bytes, IsStanding}
 use Rattle.local_files.proofs.Closings.{put_whole}
 use Rattle.xinu_model.specs.Files.Writing.{overwritten}
 use Rattle.std.proofs.Common.{◌-◌, ◌*◌, drop, length-drop}
@@ -25,7 +24,7 @@ use Rattle.file_laws.specs.Middle.{IsMiddle}
 use Rattle.file_laws.specs.Changing.{IsReadBy}
 use Rattle.file_laws.proofs.Reached.{middle_read}
 use Rattle.local_files.proofs.Closings.{put_whole}
-use Rattle.local_files.proofs.Freeing.{IsStanding, standing, some_at, goes_from}
+use Rattle.local_files.proofs.Freeing.{some_at, goes_from}
 use Rattle.std.proofs.lemmas.List.{take-take}
 use Rattle.std.proofs.lemmas.Bool.{and_parts}
 use Rattle.local_files.proofs.CutSteps.{index_on_disk}
@@ -37,6 +36,9 @@ use Rattle.local_files.proofs.Putting.{put_open, put_entry_is, put_small, where_
 use Rattle.local_files.proofs.PutSteps.{put_kept, ready_kept, inside_is, target_in, next_put_goes}
 use Rattle.local_files.specs.Buffers.{patched}
 use Rattle.file_laws.proofs.Overwrites.{overwritten_more}
+use Rattle.local_files.proofs.Standing.{with_block, with_disk}
+use Rattle.local_files.specs.declared.Phase.TheVariants.{Wants}
+use Rattle.local_files.specs.declared.Purpose.TheVariants.{Reach, PatchRead, PatchWrite}
 
 -- which index block the next bytes need, by where they are
 pub target_either : (e : Files) → (target e ≡ at_byte e / 8192) ⊎ ((0 < at_byte e) × (target e ≡ (at_byte e - 1) / 8192))
@@ -141,16 +143,7 @@ after_goes e entry ix a r base disk made p p' s whole u left size middle no_inde
           (let v = t.1 in (omega (arith, v, next_at, reached, at, fits, some), omega (arith, v, next_at, reached, at, fits, some))))
           (target_either x);
     } in
-    let sx : IsStanding x base made = record {
-      clean = s.clean;
-      blocks = s.blocks;
-      whole = whole;
-      six = s.six;
-      outgoing = s.outgoing;
-      buffer = s.buffer;
-      device = s.device;
-      apart = s.apart;
-    } in
+    let sx : IsStanding x base made = with_disk s whole in
     goes_from (next_put x).phase e.call (call_bytes e) x e (next_put x) base made refl (next_put_goes x base made sx ready)
 
 -- what a block gets of the buffer
@@ -187,28 +180,21 @@ low_old e base disk p s u =
     let within = (put_open e base disk p s u).position in let a = u.position in omega (arith, is, old, within, a)
 
 -- The data block was read: it gets the bytes.
-pub patch_read_goes : (e e' : Files) (b : ℕ) (base disk read : List ℕ) → e.phase ≡ PatchRead b → e' ≡ patch_read b read e
+pub patch_read_goes : (e e' : Files) (b : ℕ) (base disk read : List ℕ) → e.phase ≡ Wants (PatchRead b) → e' ≡ patch_read b read e
     → length read ≡ 512 → length e'.block ≡ 512 → Stands e base disk → read ≡ block_in disk b
     → GoesTo e'.phase e.call (call_bytes e) e e' base disk
 patch_read_goes e e' b base disk read phase new wide wide' s honest =
     let H : Phase → Type 0 = λ p. InHand p e base disk in
     let h : IsPatch e b base disk = subst H phase s.hand in
     let block = patched e.done (piece e) (at_byte e % 512) e.buffer read in
-    let e2 : Files = record e { block = block; phase = PatchWrite b } in
+    let e2 : Files = record e { block = block; phase = Wants (PatchWrite b) } in
     let P : Files → Type 0 = λ x. GoesTo x.phase e.call (call_bytes e) e x base disk in
     subst P (sym new) (
       record {
-        clean = s.clean;
-        blocks = s.blocks;
-        whole = s.whole;
-        six = s.six;
-        buffer = s.buffer;
-        outgoing = sym (ap (λ (x : Files). length x.block) new) ∙ wide';
-        device = s.device;
-        apart = s.apart;
+        standing = with_block s.standing (sym (ap (λ (x : Files). length x.block) new) ∙ wide');
         hand = record {
           patch = record {
-            ready = ready_kept e (PatchWrite b) block base disk h.ready;
+            ready = ready_kept e (Wants (PatchWrite b)) block base disk h.ready;
             left = h.left;
             reached = h.reached;
             inside = h.inside;
@@ -223,13 +209,13 @@ patch_read_goes e e' b base disk read phase new wide wide' s honest =
     )
 
 -- It is written.
-pub patch_written_goes : (e e' : Files) (b : ℕ) (base disk : List ℕ) → e.phase ≡ PatchWrite b → e' ≡ next_put (put_done e)
+pub patch_written_goes : (e e' : Files) (b : ℕ) (base disk : List ℕ) → e.phase ≡ Wants (PatchWrite b) → e' ≡ next_put (put_done e)
     → Stands e base disk → GoesTo e'.phase e.call (call_bytes e) e e' base (block_put disk b e.block)
 patch_written_goes e e' b base disk phase new s =
     let H : Phase → Type 0 = λ p. InHand p e base disk in
     let h : IsPatched e b base disk = subst H phase s.hand in
     let r = h.patch.ready in let p = r.places in let u = r.putting in
-    let st = standing e base disk s in
+    let st = s.standing in
     let q = e.position + e.done in
     let f = piece_is e base disk p st u h.patch.left in
     let old = entry_bytes base (entry_at base e.slot) in
@@ -267,7 +253,7 @@ patch_written_goes e e' b base disk phase new s =
     }) (reached ∙ ap (λ k. k + 1) t_is))
 
 -- An index block was read.
-pub reached_goes : (e e' : Files) (rest at : ℕ) (base disk read : List ℕ) → e.phase ≡ Reach rest at
+pub reached_goes : (e e' : Files) (rest at : ℕ) (base disk read : List ℕ) → e.phase ≡ Wants (Reach rest at)
     → e' ≡ reached rest at (index_at (at % 7) read) e → Stands e base disk → read ≡ block_in disk (6 + at / 7)
     → GoesTo e'.phase e.call (call_bytes e) e e' base disk
 reached_goes e e' rest at base disk read phase new s honest = subst P (sym new) (by_rest rest refl)
@@ -279,7 +265,7 @@ reached_goes e e' rest at base disk read phase new s honest = subst P (sym new) 
     h = let H : Phase → Type 0 = λ p. InHand p e base disk in subst H phase s.hand
 
     st : IsStanding e base disk
-    st = standing e base disk s
+    st = s.standing
 
     file : IsReadBy e.blocks disk e.entry (numbers_at h.ready.places.chains e.slot) (numbers_at h.ready.places.datas e.slot)
     file = middle_read e.blocks base disk e.header e.slot e.entry h.ready.places
@@ -310,16 +296,7 @@ reached_goes e e' rest at base disk read phase new s honest = subst P (sym new) 
           cursor = cursor;
           near = λ _. (omega arith, omega arith);
         } in
-        let sx : IsStanding x base disk = record {
-          clean = s.clean;
-          blocks = s.blocks;
-          whole = s.whole;
-          six = s.six;
-          outgoing = s.outgoing;
-          buffer = s.buffer;
-          device = s.device;
-          apart = s.apart;
-        } in
+        let sx : IsStanding x base disk = s.standing in
         goes_from (next_put x).phase e.call (call_bytes e) x e (next_put x) base disk refl (next_put_goes x base disk sx ready)
     by_rest (suc k) z =
         let lt = h.below in let few = h.few in
@@ -332,19 +309,12 @@ reached_goes e e' rest at base disk read phase new s honest = subst P (sym new) 
         let on : nat_lt (6 + number / 7) e.blocks ≡ true = ap (λ i. nat_lt (6 + i / 7) e.blocks) next
         ∙ index_on_disk e.blocks _ h.ready.putting.middle.low below in
         let x : Files = record e { index = index_at (at % 7) read; at = at } in
-        let e2 : Files = record x { phase = Reach k number } in
+        let e2 : Files = record x { phase = Wants (Reach k number) } in
         let Q : Bool → Type 0 = λ v. P (if v then e2 else answered (negsuc 0) x) in
         let zero_now = h.start (omega (arith, z)) in
         subst Q (sym on) (
           record {
-            clean = s.clean;
-            blocks = s.blocks;
-            whole = s.whole;
-            six = s.six;
-            buffer = s.buffer;
-            outgoing = s.outgoing;
-            device = s.device;
-            apart = s.apart;
+            standing = s.standing;
             hand = record {
               left = h.left;
               few = omega (arith, z, few);
@@ -354,7 +324,7 @@ reached_goes e e' rest at base disk read phase new s honest = subst P (sym new) 
               ready = record {
                 places = h.ready.places;
                 putting =
-                    put_kept e (Reach k number) (index_at (at % 7) read) at e.reached e.block base disk h.ready.places h.ready.putting;
+                    put_kept e (Wants (Reach k number)) (index_at (at % 7) read) at e.reached e.block base disk h.ready.places h.ready.putting;
                 no_index = h.ready.no_index;
                 no_data = h.ready.no_data;
                 fresh = h.ready.fresh;

@@ -6,11 +6,10 @@ use Rattle.lfs_check.specs.Disks.{entry_at}
 use Rattle.file_laws.specs.StoredFiles.{entry_bytes}
 use Rattle.local_files.specs.declared.Files.{Files}
 use Rattle.local_files.specs.declared.Phase.{Phase}
-use Rattle.local_files.specs.declared.Phase.TheVariants.{Reach, PatchRead, TakeRead}
 use Rattle.local_files.specs.Hands.{put_bytes}
 use Rattle.local_files.specs.Putting.{IsPutting, IsReady, IsAt}
-use Rattle.local_files.specs.Steps.{answered, at_byte}
-use Rattle.local_files.specs.Standing.{GoesTo, call_bytes}
+use Rattle.local_files.specs.Steps.{answered, at_byte, going_on}
+use Rattle.local_files.specs.Standing.{GoesTo, call_bytes, IsStanding}
 use Rattle.xinu_model.specs.Files.Writing.{overwritten}
 use Rattle.std.proofs.Common.{◌-◌, drop}
 use Rattle.lfs_format.specs.declared.Index.{Index}
@@ -21,12 +20,14 @@ use Rattle.lfs_check.proofs.KeepsAll.{either-way}
 use Rattle.file_laws.specs.Middle.{IsMiddle}
 use Rattle.file_laws.specs.Changing.{IsReadBy}
 use Rattle.file_laws.proofs.Reached.{middle_read, free_data_first, free_data_some, free_data_none, free_index_none}
-use Rattle.local_files.proofs.Freeing.{IsStanding, some_at}
+use Rattle.local_files.proofs.Freeing.{some_at}
 use Rattle.local_files.proofs.CutSteps.{index_on_disk}
 use Rattle.local_files.proofs.Taking.{block_of}
-use Rattle.local_files.specs.Puts.{end_put, at_end, target, reaching, reach_to, in_place, patching, appending, taking, next_put}
+use Rattle.local_files.specs.Puts.{end_put, at_end, target, reach_to, in_place, appending, next_put}
 use Rattle.file_laws.specs.Fitting.{IsFull}
 use Rattle.local_files.proofs.Putting.{where_put, put_size, end_put_goes}
+use Rattle.local_files.specs.declared.Phase.TheVariants.{Wants}
+use Rattle.local_files.specs.declared.Purpose.TheVariants.{Reach, PatchRead, TakeRead}
 
 -- what is put, once a block is written or taken
 abbrev pub put_changed : (e : Files) (ph : Phase) (ix : Index) (hd : Header) (a r : ℕ) (b : List ℕ) (base disk made : List ℕ) (p p2 : Places)
@@ -126,24 +127,17 @@ module _ (e : Files) (base disk : List ℕ) (s : IsStanding e base disk) (r : Is
 
   -- goes on to an index block
   reaching_goes : (rest at : ℕ) → e.done < e.total → rest ≤ target e → target e < length (numbers_at p.chains e.slot)
-      → at ≡ slice_index (numbers_at p.chains e.slot) (target e - rest) → (0 < rest → e.reached ≡ 0) → G (reaching rest at e)
+      → at ≡ slice_index (numbers_at p.chains e.slot) (target e - rest) → (0 < rest → e.reached ≡ 0) → G (going_on (Reach rest at) e)
   reaching_goes rest at left few below here start =
       let b = (read.index (target e - rest) (omega (arith, below))).below in
       let on : nat_lt (6 + at / 7) e.blocks ≡ true = ap (λ k. nat_lt (6 + k / 7) e.blocks) here ∙ index_on_disk e.blocks _ low b in
-      let e2 : Files = record e { phase = Reach rest at } in
+      let e2 : Files = record e { phase = Wants (Reach rest at) } in
       let P : Bool → Type 0 = λ v. G (if v then e2 else answered (negsuc 0) e) in
       subst P (sym on) (
         record {
-          clean = s.clean;
-          blocks = s.blocks;
-          whole = s.whole;
-          six = s.six;
-          buffer = s.buffer;
-          outgoing = s.outgoing;
-          device = s.device;
-          apart = s.apart;
+          standing = s;
           hand = record {
-            ready = ready_kept e (Reach rest at) e.block base disk r;
+            ready = ready_kept e (Wants (Reach rest at)) e.block base disk r;
             left = left;
             few = few;
             below = below;
@@ -159,7 +153,7 @@ module _ (e : Files) (base disk : List ℕ) (s : IsStanding e base disk) (r : Is
   reach_to_goes : e.done < e.total → target e < length (numbers_at p.chains e.slot) → e.reached ≢ target e + 1 → G (reach_to e)
   reach_to_goes left below other =
       either-way (e.reached == 0) (λ v. (e.reached == 0) ≡ v
-      → G (if v then reaching (target e) e.entry.first e else reaching 0 e.index.next e))
+      → G (if v then going_on (Reach (target e) e.entry.first) e else going_on (Reach 0 e.index.next) e))
       (λ _ t. (reaching_goes (target e) e.entry.first left (omega arith) below (read.first
       ∙ some_at (numbers_at p.chains e.slot) 0 null (omega (arith, below))
       ∙ ap (slice_index (numbers_at p.chains e.slot)) (let z : 0 ≡ target e - target e = omega arith in z)) (λ _. zero_is e.reached t)))
@@ -185,7 +179,7 @@ module _ (e : Files) (base disk : List ℕ) (s : IsStanding e base disk) (r : Is
       let bl = read.blocks_long in let cl = read.chain_long in
       let below : target e < length (numbers_at p.chains e.slot) = omega (arith, t_is, lt, bl, cl) in
       either-way (e.reached == target e + 1) (λ v. (e.reached == target e + 1) ≡ v
-      → G (if v then patching (slice_index e.index.blocks (q / 512 % 16)) e else reach_to e))
+      → G (if v then going_on (PatchRead (slice_index e.index.blocks (q / 512 % 16))) e else reach_to e))
       (λ _ t. (let same : e.reached ≡ target e + 1 = grind (arith, nat_tests) in
       let index : e.index ≡ index_for (q / 8192) (numbers_at p.chains e.slot) (numbers_at p.datas e.slot) =
       r.cursor.index (omega (arith, same))
@@ -195,20 +189,13 @@ module _ (e : Files) (base disk : List ℕ) (s : IsStanding e base disk) (r : Is
       let high = (read.block (q / 512) lt).1 in
       let b = slice_index e.index.blocks (q / 512 % 16) in
       let on : nat_lt b e.blocks ≡ true = (let z : b < e.blocks = omega (arith, here, high) in grind (arith, nat_tests)) in
-      let e2 : Files = record e { phase = PatchRead b } in
+      let e2 : Files = record e { phase = Wants (PatchRead b) } in
       let P : Bool → Type 0 = λ v. G (if v then e2 else answered (negsuc 0) e) in
       subst P (sym on) (
         record {
-          clean = s.clean;
-          blocks = s.blocks;
-          whole = s.whole;
-          six = s.six;
-          buffer = s.buffer;
-          outgoing = s.outgoing;
-          device = s.device;
-          apart = s.apart;
+          standing = s;
           hand = record {
-            ready = ready_kept e (PatchRead b) e.block base disk r;
+            ready = ready_kept e (Wants (PatchRead b)) e.block base disk r;
             left = left;
             reached = same;
             inside = inside;
@@ -234,7 +221,7 @@ module _ (e : Files) (base disk : List ℕ) (s : IsStanding e base disk) (r : Is
       let at = ends_is e ends in
       let size_end : e.entry.size ≡ e.position + e.done = sym at.0 ∙ q_is in
       let whole : e.entry.size % 512 ≡ 0 = ap (λ k. k % 512) (sym at.0) ∙ at.1 in
-      let next : Bool → Files = λ w. if w then taking e else reach_to e in
+      let next : Bool → Files = λ w. if w then going_on (TakeRead e.header.free_data) e else reach_to e in
       let last : Bool → Files = λ v. if v then end_put e else next ((q == 0) || (e.reached == target e + 1)) in
       let stop : IsFull p e.entry.size → G (end_put e) = λ full.
       end_put_goes e base disk p s u r.no_index r.no_data r.fresh (inr (size_end, full)) in
@@ -269,31 +256,24 @@ module _ (e : Files) (base disk : List ℕ) (s : IsStanding e base disk) (r : Is
       same_test a b z = grind (arith, nat_tests)
 
       goes_on : e.header.free_data ≢ null → (at_byte e % 8192 ≡ 0 → e.header.free_index ≢ null)
-          → G (if (at_byte e == 0) || (e.reached == target e + 1) then taking e else reach_to e)
+          → G (if (at_byte e == 0) || (e.reached == target e + 1) then going_on (TakeRead e.header.free_data) e else reach_to e)
       goes_on some index =
           let q = at_byte e in
           let at = ends_is e ends in
           let cl = read.chain_long in
-          let take_it : (0 < q → e.reached ≡ target e + 1) → G (taking e) = λ reached. (
+          let take_it : (0 < q → e.reached ≡ target e + 1) → G (going_on (TakeRead e.header.free_data) e) = λ reached. (
           let m = u.middle in
           let f = free_data_first e.blocks base disk e.header e.slot e.entry p bytes e.header.free_data (drop 1 p.free_data) m
           (free_data_some e.blocks base disk e.header e.slot e.entry p bytes m some) in
           let high = f.high in
           let on : nat_lt e.header.free_data e.blocks ≡ true = grind (arith, nat_tests) in
-          let e2 : Files = record e { phase = TakeRead e.header.free_data } in
+          let e2 : Files = record e { phase = Wants (TakeRead e.header.free_data) } in
           let P : Bool → Type 0 = λ v. G (if v then e2 else answered (negsuc 0) e) in
           subst P (sym on) (
             record {
-              clean = s.clean;
-              blocks = s.blocks;
-              whole = s.whole;
-              six = s.six;
-              buffer = s.buffer;
-              outgoing = s.outgoing;
-              device = s.device;
-              apart = s.apart;
+              standing = s;
               hand = record {
-                ready = ready_kept e (TakeRead e.header.free_data) e.block base disk r;
+                ready = ready_kept e (Wants (TakeRead e.header.free_data)) e.block base disk r;
                 left = left;
                 ends = ends;
                 reached = reached;
@@ -306,10 +286,10 @@ module _ (e : Files) (base disk : List ℕ) (s : IsStanding e base disk) (r : Is
             refl,
             refl,
           )) in
-          either-way (q == 0) (λ a. (q == 0) ≡ a → G (if a || (e.reached == target e + 1) then taking e else reach_to e))
+          either-way (q == 0) (λ a. (q == 0) ≡ a → G (if a || (e.reached == target e + 1) then going_on (TakeRead e.header.free_data) e else reach_to e))
           (λ _ t. (let z : q ≡ 0 = is_so q 0 t in take_it (λ h. absurd (omega (arith, h, z)))))
           (λ _ t. (let h : 0 < q = above q t in
-          either-way (e.reached == target e + 1) (λ b. (e.reached == target e + 1) ≡ b → G (if b then taking e else reach_to e))
+          either-way (e.reached == target e + 1) (λ b. (e.reached == target e + 1) ≡ b → G (if b then going_on (TakeRead e.header.free_data) e else reach_to e))
           (λ _ t2. take_it (λ _. is_so e.reached (target e + 1) t2))
           (λ _ t2. (let t_is = target_end e ends h in let a = at.0 in
           reach_to_goes left (omega (arith, t_is, h, a, cl)) (λ z. false≢true (sym t2 ∙ same_test e.reached (target e + 1) z))))

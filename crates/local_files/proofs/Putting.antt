@@ -12,11 +12,10 @@ use Rattle.file_laws.proofs.Counted.{entry_small}
 use Rattle.local_files.specs.declared.Files.{Files}
 use Rattle.local_files.specs.declared.FileCall.{FileCall}
 use Rattle.local_files.specs.declared.FileCall.TheVariants.{Open, Delete, Close, Read, Write, Getc, Putc, Seek, Truncate, Size}
-use Rattle.local_files.specs.declared.Phase.TheVariants.{EntryRead, Done}
 use Rattle.local_files.specs.Hands.{system, IsEnding, IsMade, IsOpenOn, IsWritten, IsEntryBlock, IsHeaderBlock, files_after, seen, put_bytes, put_files, name_in_hand}
 use Rattle.local_files.specs.Putting.{IsPutting, IsPut}
 use Rattle.local_files.specs.Steps.{device_at, answered, shown, at_byte, device_of, or_none, named_device}
-use Rattle.local_files.specs.Standing.{Stands, GoesTo, call_bytes, given_bytes}
+use Rattle.local_files.specs.Standing.{Stands, GoesTo, call_bytes, given_bytes, IsStanding}
 use Rattle.local_files.proofs.Devices.{shown_at}
 use Rattle.xinu_model.specs.Files.Systems as systems
 use Rattle.file_laws.proofs.Effects.{open_bytes_is, write_refused, putc_refused}
@@ -31,7 +30,7 @@ use Rattle.file_laws.specs.Rewriting.{IsRewriting}
 use Rattle.file_laws.proofs.Reached.{middle_read}
 use Rattle.file_laws.proofs.Finished.{middle_ends}
 use Rattle.file_laws.proofs.Resting.{middle_holds, ending_holds}
-use Rattle.local_files.proofs.Freeing.{IsStanding, busy_slot}
+use Rattle.local_files.proofs.Freeing.{busy_slot}
 use Rattle.file_laws.proofs.Patched.{middle_sized}
 use Rattle.file_laws.proofs.Fitting.{length_overwritten, fitting_is}
 use Rattle.local_files.proofs.Taking.{open_of}
@@ -40,6 +39,9 @@ use Rattle.file_laws.specs.Fitting.{IsFull}
 use Rattle.lfs_check.proofs.Counting.{length-most}
 use Rattle.lfs_check.proofs.Steps.{times_in-part}
 use Rattle.lfs_check.proofs.KeepsAll.{either-way}
+use Rattle.local_files.proofs.Standing.{at_base}
+use Rattle.local_files.specs.declared.Phase.TheVariants.{Done, Wants}
+use Rattle.local_files.specs.declared.Purpose.TheVariants.{EntryRead}
 
 -- the file that is written is on the disk
 pub put_open : (e : Files) (base disk : List ℕ) (p : Places) → IsStanding e base disk → (u : IsPutting e base disk p) → IsOpenOn base u.file
@@ -129,14 +131,7 @@ end_put_goes e base disk p s u no_index no_data fresh end =
     (λ _ t. (let z : e.done ≡ 0 = grind (arith, nat_tests) in refused e.call refl u.call z))
     (λ _ t. (let some : 0 < e.done = above e.done t in (
       record {
-        clean = s.clean;
-        blocks = s.blocks;
-        whole = s.whole;
-        six = s.six;
-        buffer = s.buffer;
-        outgoing = s.outgoing;
-        device = s.device;
-        apart = s.apart;
+        standing = s;
         hand = record {
           slot = u.middle.slot_is;
           ending = ending e.call refl u.call some;
@@ -157,7 +152,7 @@ end_put_goes e base disk p s u no_index no_data fresh end =
     G x = GoesTo x.phase e.call (call_bytes e) e x base disk
 
     e2 : Files
-    e2 = record e { phase = EntryRead }
+    e2 = record e { phase = Wants EntryRead }
 
     bytes : List ℕ
     bytes = overwritten e.position (take e.done (put_bytes e)) (entry_bytes base (entry_at base e.slot))
@@ -174,14 +169,7 @@ end_put_goes e base disk p s u no_index no_data fresh end =
     refused_stands : e.done ≡ 0 → Stands (answered (negsuc 0) e) disk disk
     refused_stands z = let D : List ℕ → Type 0 = λ x. Stands (answered (negsuc 0) e) x x in
         subst D (sym (fresh z)) (record {
-          clean = s.clean;
-          blocks = s.blocks;
-          whole = refl;
-          six = s.six;
-          buffer = s.buffer;
-          outgoing = s.outgoing;
-          device = s.device;
-          apart = s.apart;
+          standing = at_base s;
           hand = refl;
         })
 

@@ -8,8 +8,8 @@ use Rattle.local_files.specs.declared.Files.{Files}
 use Rattle.local_files.specs.declared.FileCall.{FileCall}
 use Rattle.local_files.specs.declared.FileCall.TheVariants.{Read, Getc}
 use Rattle.local_files.specs.Hands.{system, IsOpenOn, IsCall, seen, put_bytes, IsReading, read_count}
-use Rattle.local_files.specs.Steps.{device_at, answered, shown, or_none, named_device}
-use Rattle.local_files.specs.Standing.{Stands, GoesTo, given_bytes}
+use Rattle.local_files.specs.Steps.{device_at, answered, shown, or_none, named_device, going_on}
+use Rattle.local_files.specs.Standing.{Stands, GoesTo, given_bytes, IsStanding}
 use Rattle.local_files.proofs.Devices.{device_some, answered_stands, shown_at, open_size}
 use Rattle.xinu_model.specs.Files.Systems as systems
 use Rattle.local_files.specs.Standing as engine
@@ -17,12 +17,14 @@ use Rattle.xinu_model.specs.Files.Calls as model
 use Rattle.std.proofs.Common.{◌-◌, min}
 use Rattle.lfs_check.specs.Meets.{null}
 use Rattle.lfs_check.proofs.KeepsAll.{either-way}
-use Rattle.local_files.proofs.Freeing.{IsStanding, some_at, goes_from}
+use Rattle.local_files.proofs.Freeing.{some_at, goes_from}
 use Rattle.std.proofs.lemmas.List.{drop_all}
-use Rattle.local_files.specs.Takes.{walking, reading_at}
+use Rattle.local_files.specs.Takes.{reading_at}
 use Rattle.xinu_model.specs.Files.Reading.{read_file, getc_file, first_byte, taken, bytes_ahead}
 use Rattle.local_files.proofs.Taking.{reading_file, reading_kept, walking_goes}
 use Rattle.local_files.proofs.Taking.{no_bytes}
+use Rattle.local_files.proofs.Standing.{at_base}
+use Rattle.local_files.specs.declared.Purpose.TheVariants.{Walk}
 
 -- what a call that reads has for its effect, if it gives no byte
 pub record IsReadCall (call : FileCall) (d n : ℕ) (sys : FileSystem) : Type 0 where
@@ -91,7 +93,7 @@ begin_read_goes e e' call d n disk c most new s = subst (λ x.
         let seen_at : systems.open_at sys d ≡ Some (seen f) = shown_at e.devices d ∙ ap shown at in
         let size = open_size disk f s.clean o in
         let start : Files = record e { call = call; position = f.position; total = min n (f.entry.size - f.position); done = 0 } in
-        let last : Bool → Files = λ w. if w then answered (negsuc 1) e else walking (f.position / 8192) f.entry.first start in
+        let last : Bool → Files = λ w. if w then answered (negsuc 1) e else going_on (Walk (f.position / 8192) f.entry.first) start in
         let mid : Bool → Files = λ v. if v then answered (pos 0) e else last (nat_le f.entry.size f.position) in
         let G : Files → Type 0 = λ x. GoesTo x.phase call [] e x disk disk in
         either-way f.read (λ u. f.read ≡ u → G (if not u then answered (negsuc 0) e else mid (n == 0)))
@@ -111,13 +113,13 @@ begin_read_goes e e' call d n disk c most new s = subst (λ x.
         above k z = grind (arith, nat_tests)
 
         goes : (f : OpenFile) → IsOpenOn disk f → device_at e d ≡ Some f → f.read ≡ true → 0 < n → f.position < f.entry.size
-            → GoesTo (walking (f.position / 8192) f.entry.first (record e {
+            → GoesTo (going_on (Walk (f.position / 8192) f.entry.first) (record e {
               call = call;
               position = f.position;
               total = min n (f.entry.size - f.position);
               done = 0;
             })).phase call [] e
-            (walking (f.position / 8192) f.entry.first (record e {
+            (going_on (Walk (f.position / 8192) f.entry.first) (record e {
               call = call;
               position = f.position;
               total = min n (f.entry.size - f.position);
@@ -125,16 +127,7 @@ begin_read_goes e e' call d n disk c most new s = subst (λ x.
             })) disk disk
         goes f o at r some within =
             let start : Files = record e { call = call; position = f.position; total = min n (f.entry.size - f.position); done = 0 } in
-            let st : IsStanding start disk disk = record {
-              clean = s.clean;
-              blocks = s.blocks;
-              whole = refl;
-              six = s.six;
-              outgoing = s.outgoing;
-              buffer = s.buffer;
-              device = s.device;
-              apart = s.apart;
-            } in
+            let st : IsStanding start disk disk = at_base s.standing in
             let count = c.count in
             let reading_is : IsReading start disk disk = record {
               same = refl;
@@ -155,7 +148,7 @@ begin_read_goes e e' call d n disk c most new s = subst (λ x.
             let first : f.entry.first ≡ slice_index (entry_chain disk f.entry) ((f.position + 0) / 8192 - f.position / 8192) =
             file.first ∙ some_at (entry_chain disk f.entry) 0 null (omega (arith, cl, within))
             ∙ ap (slice_index (entry_chain disk f.entry)) (omega arith) in
-            let x = walking (f.position / 8192) f.entry.first start in
+            let x = going_on (Walk (f.position / 8192) f.entry.first) start in
             let B : List ℕ → Type 0 = λ bs. GoesTo x.phase call bs start x disk disk in
             goes_from x.phase call [] start e x disk disk refl
             (subst B (no_bytes call (put_bytes start) (omega (arith, some, count)))

@@ -21,18 +21,18 @@ use Rattle.local_files.specs.declared.Files.{Files}
 use Rattle.local_files.specs.declared.FileCall.{FileCall}
 use Rattle.local_files.specs.declared.FileCall.TheVariants.{Open, Delete, Close, Read, Write, Getc, Putc, Seek, Truncate, Size}
 use Rattle.local_files.specs.declared.Phase.{Phase}
-use Rattle.local_files.specs.declared.Phase.TheVariants.{Idle, Done, Search, Walk, Fetch, Counts, Reach, PatchRead, PatchWrite, TakeRead, TakeWrite, AddRead, AddWrite, NewRead, NewWrite, LinkRead, LinkWrite, CutRead, CutWrite, FreeWrite, EntryRead, EntryWrite, HeaderRead, HeaderWrite}
 use Rattle.local_files.specs.Hands.{system, IsEnding, IsCutFor, IsEmptied, IsDeleting, name_of, put_bytes, seen}
 use Rattle.local_files.specs.Putting.{IsPut, IsPutting, IsReady, IsPatch, IsTaken, IsNew}
 use Rattle.local_files.specs.Puts.{at_end}
 use Rattle.local_files.specs.Resting.{WillBeRefused}
-use Rattle.local_files.specs.Standing.{Stands, InHand, call_of, given_bytes, served, served_by, wanted_in}
+use Rattle.local_files.specs.Standing.{Stands, InHand, call_of, given_bytes, served, served_by, wanted_in, IsStanding}
 use Rattle.local_files.specs.Steps.{at_byte, device_at, device_of, shown}
 use Rattle.local_files.proofs.Closings.{creates}
 use Rattle.local_files.proofs.Devices.{shown_at}
-use Rattle.local_files.proofs.Freeing.{IsStanding, standing}
 use Rattle.local_files.proofs.Putting.{put_open, put_entry_is, puts_long, put_size, where_put}
 use Rattle.local_files.proofs.PutSteps.{ends_is, not_ends}
+use Rattle.local_files.specs.declared.Phase.TheVariants.{Idle, Done, Wants}
+use Rattle.local_files.specs.declared.Purpose.TheVariants.{Search, Walk, Fetch, Counts, Reach, PatchRead, PatchWrite, TakeRead, TakeWrite, AddRead, AddWrite, NewRead, NewWrite, LinkRead, LinkWrite, CutRead, CutWrite, FreeWrite, EntryRead, EntryWrite, HeaderRead, HeaderWrite}
 
 -- the reply that a call in hand will have
 abbrev reply_for : FileCall → Files → List ℕ → ℤ
@@ -147,7 +147,7 @@ more_new e b i base disk s n =
 
 module _ (e : Files) (base disk : List ℕ) (s : Stands e base disk) where
   st : IsStanding e base disk
-  st = standing e base disk s
+  st = s.standing
 
   abbrev Goes : FileCall → Type 0
   Goes c = reply_for c e base ≢ negsuc 0
@@ -222,29 +222,29 @@ module _ (e : Files) (base disk : List ℕ) (s : Stands e base disk) where
   in_phase : WillBeRefused e base → (p : Phase) → InHand p e base disk → Stays p
   in_phase refused Idle h = (h, h)
   in_phase refused (Done r) h = (h, h)
-  in_phase refused (Search d) h = (h.same, h.same)
-  in_phase refused (Walk rest at) h = (h.reading.same, h.reading.same)
-  in_phase refused (Fetch b) h = (h.reading.same, h.reading.same)
-  in_phase refused Counts h = (h.same, h.same)
-  in_phase refused (Reach rest at) h = let same = not_put refused h.ready in (same, same)
-  in_phase refused (PatchRead b) h = let same = not_put refused h.ready in (same, same)
-  in_phase refused (TakeRead b) h = let same = not_put refused h.ready in (same, same)
-  in_phase refused (PatchWrite b) h =
+  in_phase refused (Wants (Search d)) h = (h.same, h.same)
+  in_phase refused (Wants (Walk rest at)) h = (h.reading.same, h.reading.same)
+  in_phase refused (Wants (Fetch b)) h = (h.reading.same, h.reading.same)
+  in_phase refused (Wants Counts) h = (h.same, h.same)
+  in_phase refused (Wants (Reach rest at)) h = let same = not_put refused h.ready in (same, same)
+  in_phase refused (Wants (PatchRead b)) h = let same = not_put refused h.ready in (same, same)
+  in_phase refused (Wants (TakeRead b)) h = let same = not_put refused h.ready in (same, same)
+  in_phase refused (Wants (PatchWrite b)) h =
       let r = h.patch.ready in absurd (granted_put e base disk r.places r.putting (more_in_place e b base disk st h.patch) refused)
-  in_phase refused (TakeWrite b) h = taken b h.taken refused
-  in_phase refused (AddRead b) h = taken b h.0.taken refused
-  in_phase refused (AddWrite b) h = taken b h.filled.taken refused
-  in_phase refused (NewRead b i) h = taken b h.0.taken refused
-  in_phase refused (NewWrite b i) h = new b i h.new refused
-  in_phase refused (LinkRead b i) h = new b i h.new refused
-  in_phase refused (LinkWrite b i) h = new b i h.link.new refused
-  in_phase refused CutRead h = absurd (cuts e.call refl h.cutting.for refused)
-  in_phase refused CutWrite h = absurd (cuts e.call refl h.read.cutting.for refused)
-  in_phase refused (FreeWrite b) h = absurd (cuts e.call refl h.cutting.for refused)
-  in_phase refused EntryRead h = absurd (ends e.call refl h.ending refused)
-  in_phase refused EntryWrite h = absurd (ends e.call refl h.ending refused)
-  in_phase refused HeaderRead h = absurd (ends e.call refl h.ending refused)
-  in_phase refused HeaderWrite h = absurd (ends e.call refl h.ending refused)
+  in_phase refused (Wants (TakeWrite b)) h = taken b h.taken refused
+  in_phase refused (Wants (AddRead b)) h = taken b h.0.taken refused
+  in_phase refused (Wants (AddWrite b)) h = taken b h.filled.taken refused
+  in_phase refused (Wants (NewRead b i)) h = taken b h.0.taken refused
+  in_phase refused (Wants (NewWrite b i)) h = new b i h.new refused
+  in_phase refused (Wants (LinkRead b i)) h = new b i h.new refused
+  in_phase refused (Wants (LinkWrite b i)) h = new b i h.link.new refused
+  in_phase refused (Wants CutRead) h = absurd (cuts e.call refl h.cutting.for refused)
+  in_phase refused (Wants CutWrite) h = absurd (cuts e.call refl h.read.cutting.for refused)
+  in_phase refused (Wants (FreeWrite b)) h = absurd (cuts e.call refl h.cutting.for refused)
+  in_phase refused (Wants EntryRead) h = absurd (ends e.call refl h.ending refused)
+  in_phase refused (Wants EntryWrite) h = absurd (ends e.call refl h.ending refused)
+  in_phase refused (Wants HeaderRead) h = absurd (ends e.call refl h.ending refused)
+  in_phase refused (Wants HeaderWrite) h = absurd (ends e.call refl h.ending refused)
 
   -- the disk is as it was when the call began
   pub refused_before : WillBeRefused e base → disk ≡ base

@@ -25,10 +25,9 @@ use Rattle.local_files.specs.declared.Files.{Files}
 use Rattle.local_files.specs.declared.FileCall.{FileCall}
 use Rattle.local_files.specs.declared.FileCall.TheVariants.{Open, Delete, Close, Read, Write, Getc, Putc, Seek, Truncate, Size}
 use Rattle.local_files.specs.declared.Phase.{Phase}
-use Rattle.local_files.specs.declared.Phase.TheVariants.{Search}
 use Rattle.local_files.specs.Hands.{system, IsSearch, IsDevice, AreApart, IsCall, name_of, put_bytes, MayLook}
 use Rattle.local_files.specs.Steps.{device_at, answered, lowest_free, is_this_open}
-use Rattle.local_files.specs.Standing.{Stands, InHand, GoesTo, given_bytes, call_bytes}
+use Rattle.local_files.specs.Standing.{Stands, InHand, GoesTo, given_bytes, call_bytes, IsStanding}
 use Rattle.local_files.specs.Opens.{IsLook, opened, finding, opening_at}
 use Rattle.local_files.proofs.Closings.{blocks_many}
 use Rattle.local_files.proofs.Devices.{answered_stands, set_stands, shown_set, is_open_same, not_open}
@@ -36,8 +35,11 @@ use Rattle.xinu_model.specs.Files.Systems as systems
 use Rattle.xinu_model.specs.Files.Opening as model_opening
 use Rattle.local_files.specs.Opens.{opening as opening_file}
 use Rattle.local_files.specs.Cuts.{cutting}
-use Rattle.local_files.proofs.Freeing.{IsStanding, goes_from}
+use Rattle.local_files.proofs.Freeing.{goes_from}
 use Rattle.local_files.proofs.CutWrites.{cutting_goes}
+use Rattle.local_files.proofs.Standing.{at_base}
+use Rattle.local_files.specs.declared.Phase.TheVariants.{Wants}
+use Rattle.local_files.specs.declared.Purpose.TheVariants.{Search}
 
 -- facts of a search, for a call that opens a name
 pub record Opening (e : Files) (name : List ℕ) (mode : OpenMode) (base : List ℕ) : Type 0 where
@@ -145,7 +147,7 @@ entry_found e d k entry base disk read h s honest below is =
     ∙ entry_of_block base e.blocks d k blocks (let m = many.0 in omega (arith, m)) block below)
 
 -- what the code leaves, if the name is in block d
-pub found_goes : (e e' : Files) (d k : ℕ) (header : Header) (entry : Entry) (name base disk read : List ℕ) → e.phase ≡ Search d
+pub found_goes : (e e' : Files) (d k : ℕ) (header : Header) (entry : Entry) (name base disk read : List ℕ) → e.phase ≡ Wants (Search d)
     → header ≡ (if d == 0 then header_2 (dir_of read) else e.header)
     → e' ≡ finding e.call (13 * d + k) entry (record e { header = header }) → (IsLook e.call → name ≡ name_of e.call) → k < 13
     → is_this name entry ≡ true
@@ -172,14 +174,7 @@ found_goes e e' d k header entry name base disk read phase counts new named belo
         let name_is : name ≡ n = (subst L c named) tt in
         let block = h.block in
         let idle : Stands (answered (pos 0) e1) base base = record {
-          clean = s.clean;
-          blocks = s.blocks;
-          whole = refl;
-          six = s.six;
-          buffer = s.buffer;
-          outgoing = s.outgoing;
-          device = s.device;
-          apart = s.apart;
+          standing = at_base s.standing;
           hand = refl;
         } in
         let goes = found_open e1 n mode (13 * d + k) entry base o.right o.look idle (omega (arith, block, below)) (here h) (ap (λ x.
@@ -205,16 +200,7 @@ found_goes e e' d k header entry name base disk read phase counts new named belo
         } in
         let e2 : Files = record e1 { slot = 13 * d + k; entry = entry; call = Delete n } in
         let M : FileCall → Type 0 = λ q. MayLook q (system e base) in
-        let s2 : IsStanding e2 base base = record {
-          clean = s.clean;
-          blocks = s.blocks;
-          whole = refl;
-          six = s.six;
-          buffer = s.buffer;
-          outgoing = s.outgoing;
-          device = s.device;
-          apart = s.apart;
-        } in
+        let s2 : IsStanding e2 base base = at_base s.standing in
         let goes = cutting_goes e2 base s2 slot (here h) two.0 (head e d header base read counts h2 read_is)
         (record {
           slot = slot;

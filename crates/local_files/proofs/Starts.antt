@@ -34,6 +34,7 @@ use Rattle.local_files.specs.Puts.{writing, writing_at}
 use Rattle.file_laws.proofs.Effects.{empty_write, kept_contents}
 use Rattle.file_laws.specs.StoredFiles.{stored_files}
 use Rattle.xinu_model.specs.Files.Writing.{write_file, putc_file, truncate_file, have_room, files_with}
+use Rattle.local_files.proofs.Standing.{at_base, with_buffer}
 
 -- what a call that puts bytes has for its effect, if it puts none
 record IsPutCall (call : FileCall) (d : ℕ) (bytes : List ℕ) (sys : FileSystem) : Type 0 where
@@ -125,14 +126,7 @@ begin_put_goes e e' call d bytes disk c few nothing new s = subst P (sym new) (b
     starts : (f : OpenFile) → device_at e d ≡ Some f → f.write ≡ true → 0 < length bytes → P (begun f)
     starts f at may some = (
       record {
-        clean = s.clean;
-        blocks = s.blocks;
-        whole = refl;
-        six = s.six;
-        buffer = (put_in bytes e.buffer few s.buffer).0;
-        outgoing = s.outgoing;
-        device = s.device;
-        apart = s.apart;
+        standing = with_buffer (at_base s.standing) ((put_in bytes e.buffer few s.buffer).0);
         hand = record {
           same = refl;
           file = f;
@@ -247,14 +241,7 @@ truncate_goes e d disk s = by_device (device_at e d) refl
         → Type 0 = λ o. P (answered (pos 0) (moved_to o d 0 e)) in subst Q (sym at) (emptied f at r z)))
         (λ _ t. (
           record {
-            clean = s.clean;
-            blocks = s.blocks;
-            whole = refl;
-            six = s.six;
-            buffer = s.buffer;
-            outgoing = s.outgoing;
-            device = s.device;
-            apart = s.apart;
+            standing = at_base s.standing;
             hand = record {
               same = refl;
               file = f;

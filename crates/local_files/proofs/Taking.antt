@@ -12,10 +12,9 @@ use Rattle.file_laws.proofs.Counted.{entry_small}
 use Rattle.local_files.specs.declared.OpenFile.{OpenFile}
 use Rattle.local_files.specs.declared.Files.{Files}
 use Rattle.local_files.specs.declared.Phase.{Phase}
-use Rattle.local_files.specs.declared.Phase.TheVariants.{Walk, Fetch}
 use Rattle.local_files.specs.Hands.{IsDevice, IsOpenOn, IsReading, IsWalking, read_count, AreApart}
-use Rattle.local_files.specs.Steps.{device_at, answered, at_byte, device_of, with_device}
-use Rattle.local_files.specs.Standing.{Stands, InHand, GoesTo, call_bytes, given_bytes}
+use Rattle.local_files.specs.Steps.{device_at, answered, at_byte, device_of, with_device, going_on}
+use Rattle.local_files.specs.Standing.{Stands, InHand, GoesTo, call_bytes, given_bytes, IsStanding}
 use Rattle.lfs_format.specs.Directory.{void_entry}
 use Rattle.lfs_format.specs.declared.Index.{Index}
 use Rattle.lfs_format.specs.Indexes.{index_at}
@@ -26,15 +25,18 @@ use Rattle.lfs_check.specs.Fields.{fields_of}
 use Rattle.file_laws.specs.Changing.{IsReadBy}
 use Rattle.file_laws.proofs.Middles.{middle_begins}
 use Rattle.file_laws.proofs.Reached.{middle_read}
-use Rattle.local_files.proofs.Freeing.{IsStanding, number_at, some_at, goes_from}
+use Rattle.local_files.proofs.Freeing.{number_at, some_at, goes_from}
 use Rattle.std.proofs.lemmas.List.{get_or-map, take_all}
 use Rattle.local_files.proofs.CutSteps.{index_on_disk}
 use Rattle.lfs_check.proofs.Directories.{geometry_is}
-use Rattle.local_files.specs.Takes.{walking, fetching, walked}
+use Rattle.local_files.specs.Takes.{walked}
 use Rattle.std.proofs.lemmas.Bool.{cases_lt}
 use Rattle.local_files.specs.declared.FileCall.{FileCall}
 use Rattle.local_files.specs.declared.FileCall.TheVariants.{Open, Delete, Close, Read, Write, Getc, Putc, Seek, Truncate, Size}
 use Rattle.local_files.proofs.Devices.{set_stands, some_below, apart_moved}
+use Rattle.local_files.proofs.Standing.{at_base}
+use Rattle.local_files.specs.declared.Phase.TheVariants.{Wants}
+use Rattle.local_files.specs.declared.Purpose.TheVariants.{Walk, Fetch}
 
 -- a file that a device has open is read off the disk
 pub open_read : (base : List ℕ) (f : OpenFile) → IsCleanImage base → IsOpenOn base f
@@ -108,26 +110,19 @@ blocks_low e base s =
 pub walking_goes : (e : Files) (rest at : ℕ) (base : List ℕ) → IsStanding e base base → (r : IsReading e base base)
     → rest ≤ (r.file.position + e.done) / 8192
     → at ≡ slice_index (entry_chain base r.file.entry) ((r.file.position + e.done) / 8192 - rest)
-    → GoesTo (walking rest at e).phase e.call (call_bytes e) e (walking rest at e) base base
+    → GoesTo (going_on (Walk rest at) e).phase e.call (call_bytes e) e (going_on (Walk rest at) e) base base
 unfolding reading_kept
 walking_goes e rest at base s r few here =
     let f = reading_file e base s r in let low = (blocks_low e base s) in
     let t = r.total in let l = r.left in let w = r.within in let cl = f.chain_long in
     let below = (f.index ((r.file.position + e.done) / 8192 - rest) (omega (arith, t, l, w, cl))).below in
     let on : nat_lt (6 + at / 7) e.blocks ≡ true = ap (λ k. nat_lt (6 + k / 7) e.blocks) here ∙ index_on_disk e.blocks _ low below in
-    let e2 : Files = record e { phase = Walk rest at } in
+    let e2 : Files = record e { phase = Wants (Walk rest at) } in
     let P : Bool → Type 0 = λ v. GoesTo (if v then e2 else answered (negsuc 0) e).phase e.call (call_bytes e) e
     (if v then e2 else answered (negsuc 0) e) base base in
     subst P (sym on) (
       record {
-        clean = s.clean;
-        blocks = s.blocks;
-        whole = s.whole;
-        six = s.six;
-        buffer = s.buffer;
-        outgoing = s.outgoing;
-        device = s.device;
-        apart = s.apart;
+        standing = s;
         hand = record { reading = reading_kept e e2 base base refl refl refl refl refl refl r; few = few; here = here };
       },
       refl,
@@ -139,26 +134,19 @@ walking_goes e rest at base s r few here =
 pub fetching_goes : (e : Files) (b : ℕ) (base : List ℕ) → IsStanding e base base → (r : IsReading e base base)
     → e.index ≡ index_for ((r.file.position + e.done) / 8192) (entry_chain base r.file.entry) (entry_data base r.file.entry)
     → b ≡ slice_index (entry_data base r.file.entry) ((r.file.position + e.done) / 512)
-    → GoesTo (fetching b e).phase e.call (call_bytes e) e (fetching b e) base base
+    → GoesTo (going_on (Fetch b) e).phase e.call (call_bytes e) e (going_on (Fetch b) e) base base
 unfolding reading_kept
 fetching_goes e b base s r index here =
     let f = reading_file e base s r in
     let t = r.total in let l = r.left in let w = r.within in let bl = f.blocks_long in
     let high = (f.block ((r.file.position + e.done) / 512) (omega (arith, t, l, w, bl))).1 in
     let on : nat_lt b e.blocks ≡ true = (let q : b < e.blocks = omega (arith, here, high) in grind (arith, nat_tests)) in
-    let e2 : Files = record e { phase = Fetch b } in
+    let e2 : Files = record e { phase = Wants (Fetch b) } in
     let P : Bool → Type 0 = λ v. GoesTo (if v then e2 else answered (negsuc 0) e).phase e.call (call_bytes e) e
     (if v then e2 else answered (negsuc 0) e) base base in
     subst P (sym on) (
       record {
-        clean = s.clean;
-        blocks = s.blocks;
-        whole = s.whole;
-        six = s.six;
-        buffer = s.buffer;
-        outgoing = s.outgoing;
-        device = s.device;
-        apart = s.apart;
+        standing = s;
         hand = record {
           reading = reading_kept e e2 base base refl refl refl refl refl refl r;
           index = index;
@@ -179,7 +167,7 @@ block_of e base q chain blocks index h =
     ∙ ap (slice_index blocks) (let z : 16 * (q / 8192) + q / 512 % 16 ≡ q / 512 = omega arith in z)
 
 -- An index block was read.
-pub walked_goes : (e e' : Files) (rest at : ℕ) (base disk read : List ℕ) → e.phase ≡ Walk rest at
+pub walked_goes : (e e' : Files) (rest at : ℕ) (base disk read : List ℕ) → e.phase ≡ Wants (Walk rest at)
     → e' ≡ walked rest (index_at (at % 7) read) e → Stands e base disk → read ≡ block_in disk (6 + at / 7)
     → GoesTo e'.phase e.call (call_bytes e) e e' base disk
 unfolding reading_kept
@@ -208,16 +196,7 @@ walked_goes e e' rest at base disk read phase new s honest =
     }
 
     st : IsStanding e base base
-    st = record {
-      clean = s.clean;
-      blocks = s.blocks;
-      whole = refl;
-      six = s.six;
-      outgoing = s.outgoing;
-      buffer = s.buffer;
-      device = s.device;
-      apart = s.apart;
-    }
+    st = at_base s.standing
 
     f : IsReadBy e.blocks base r.file.entry (entry_chain base r.file.entry) (entry_data base r.file.entry)
     f = reading_file e base st r
@@ -236,16 +215,7 @@ walked_goes e e' rest at base disk read phase new s honest =
     e2 = record e { index = index_at (at % 7) read }
 
     st2 : IsStanding e2 base base
-    st2 = record {
-      clean = s.clean;
-      blocks = s.blocks;
-      whole = refl;
-      six = s.six;
-      outgoing = s.outgoing;
-      buffer = s.buffer;
-      device = s.device;
-      apart = s.apart;
-    }
+    st2 = at_base s.standing
 
     r2 : IsReading e2 base base
     r2 = reading_kept e e2 base base refl refl refl refl refl refl r
@@ -262,7 +232,7 @@ walked_goes e e' rest at base disk read phase new s honest =
         let here : slice_index e2.index.blocks (at_byte e / 512 % 16) ≡ slice_index (entry_data base r.file.entry) (q / 512) =
         ap (λ k. slice_index e2.index.blocks (k / 512 % 16)) at_is
         ∙ block_of e2 base q (entry_chain base r.file.entry) (entry_data base r.file.entry) index0 lt in
-        let x = fetching (slice_index e2.index.blocks (at_byte e / 512 % 16)) e2 in
+        let x = going_on (Fetch (slice_index e2.index.blocks (at_byte e / 512 % 16))) e2 in
         goes_from x.phase e.call (call_bytes e) e2 e x base base refl
         (fetching_goes e2 (slice_index e2.index.blocks (at_byte e / 512 % 16)) base st2 r2 index0 here)
     by_rest (suc k) z =
@@ -271,7 +241,7 @@ walked_goes e e' rest at base disk read phase new s honest =
         ap (λ (x : Index). x.next) index_is
         ∙ ap (λ j. slice_index_or (entry_chain base r.file.entry) j null) (let y : suc (q / 8192 - rest) ≡ q / 8192 - k =
         omega (arith, z, few) in y) ∙ some_at (entry_chain base r.file.entry) (q / 8192 - k) null (omega (arith, lt)) in
-        let x = walking k (index_at (at % 7) read).next e2 in
+        let x = going_on (Walk k (index_at (at % 7) read).next) e2 in
         goes_from x.phase e.call (call_bytes e) e2 e x base base refl
         (walking_goes e2 k (index_at (at % 7) read).next base st2 r2 (omega (arith, z, few)) next)
 
@@ -325,7 +295,7 @@ moved_stands e base d to f s o at inside =
     let g : OpenFile = record f { position = to } in
     let six = s.six in
     let e4 : Files = answered (pos 0) e in
-    let s4 : Stands e4 base base = record { clean = s.clean; blocks = s.blocks; whole = refl; six = s.six; buffer = s.buffer; outgoing = s.outgoing; device = s.device; apart = s.apart; hand = refl } in
+    let s4 : Stands e4 base base = record { standing = s; hand = refl } in
     let below : d < 6 = (let l = some_below e.devices d f at in omega (arith, l, six)) in
     set_stands (pos 0) e4 base d (Some g) s4 below (record { slot = o.slot; entry = o.entry; used = o.used; position = inside })
     (λ c ne. apart_moved (device_at e c) f g refl (let Q : Option OpenFile → Type 0 = λ x. AreApart (device_at e c) x in subst Q at (s.apart c d ne))

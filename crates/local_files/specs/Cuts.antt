@@ -1,18 +1,19 @@
 -- The steps of `truncate`, and those that a deletion has besides.
-use Rattle.std.specs.Prelude.{ℕ, ◌+◌, ◌/◌, ◌%◌, ◌==◌, not, nat_lt, ◌&&◌, if◌then◌else◌, List, ◌++◌, replicate, Option, Some, None, slice_index, pos, negsuc}
+use Rattle.std.specs.Prelude.{ℕ, ◌+◌, ◌%◌, ◌==◌, not, nat_lt, ◌&&◌, if◌then◌else◌, List, ◌++◌, replicate, Option, Some, None, slice_index, pos, negsuc}
 use Rattle.byteorder.specs.Endian.{little_bytes}
 use Rattle.lfs_format.specs.declared.Entry.{Entry}
 use Rattle.lfs_format.specs.declared.Index.{Index}
 use Rattle.lfs_check.specs.Meets.{null}
-use Rattle.local_files.specs.Steps.{answered, moved_to, device_at, is_delete}
+use Rattle.local_files.specs.Steps.{answered, moved_to, device_at, is_delete, going_on}
 use Rattle.local_files.specs.declared.OpenFile.{OpenFile}
 use Rattle.local_files.specs.declared.FileCall.{FileCall}
-use Rattle.local_files.specs.declared.Phase.TheVariants.{Counts, CutRead, CutWrite, FreeWrite, EntryRead}
 use Rattle.local_files.specs.declared.Files.{Files}
+use Rattle.local_files.specs.declared.Phase.TheVariants.{Wants}
+use Rattle.local_files.specs.declared.Purpose.TheVariants.{Counts, CutRead, CutWrite, FreeWrite, EntryRead}
 
 -- a call takes the file of a device in hand, and reads the counts
 abbrev pub held_file : OpenFile → FileCall → Files → Files
-held_file f call e = record e { call = call; slot = f.slot; entry = f.entry; phase = Counts }
+held_file f call e = record e { call = call; slot = f.slot; entry = f.entry; phase = Wants Counts }
 
 -- a file is to be cut to nothing: refused unless it may be written
 abbrev pub truncating : OpenFile → ℕ → FileCall → Files → Files
@@ -31,19 +32,15 @@ end_cut e =
     if is_delete e.call then record e {
       entry = record e.entry { name = replicate 28 0 };
       header = record e.header { files = (e.header.files + 4294967295) % 4294967296 };
-      phase = EntryRead;
+      phase = Wants EntryRead;
     }
-    else record e { phase = EntryRead }
-
--- goes on to an index block, if there is such a block
-abbrev pub cut_at : Files → Files
-cut_at e = if nat_lt (6 + e.at / 7) e.blocks then record e { phase = CutRead } else answered (negsuc 0) e
+    else record e { phase = Wants EntryRead }
 
 -- the file in hand is cut to nothing
 abbrev pub cutting : Entry → Files → Files
 cutting entry e =
     let c : Files = record e { at = entry.first; reached = 0; freed = 0; entry = record entry { size = 0; first = null } } in
-    if entry.size == 0 then end_cut c else cut_at c
+    if entry.size == 0 then end_cut c else going_on CutRead c
 
 -- an index block that names the first free one
 abbrev pub freed_index : Index → Files → Index
@@ -51,7 +48,7 @@ freed_index index e = record index { next = e.header.free_index }
 
 -- an index block was read
 abbrev pub cut_read : Index → List ℕ → Files → Files
-cut_read index block e = record e { index = index; block = block; phase = CutWrite }
+cut_read index block e = record e { index = index; block = block; phase = Wants CutWrite }
 
 -- it is written: it is the first free one
 abbrev pub cut_written : Files → Files
@@ -63,13 +60,13 @@ word_block word = little_bytes 4 word ++ replicate 508 0
 
 -- a data block is to be freed, if there is such a block
 abbrev pub freeing : ℕ → Files → Files
-freeing b e = if nat_lt b e.blocks then record e { block = word_block e.header.free_data; phase = FreeWrite b } else answered (negsuc 0) e
+freeing b e = if nat_lt b e.blocks then record e { block = word_block e.header.free_data; phase = Wants (FreeWrite b) } else answered (negsuc 0) e
 
 -- goes on to the next data block, or the next index block, or the end
 abbrev pub free_next : Files → Files
 free_next e =
     if nat_lt e.freed 16 && not (slice_index e.index.blocks (e.freed % 16) == null) then freeing (slice_index e.index.blocks (e.freed % 16)) e
-    else (if not (e.index.next == null) then cut_at (record e { at = e.index.next }) else end_cut e)
+    else (if not (e.index.next == null) then going_on CutRead (record e { at = e.index.next }) else end_cut e)
 
 -- it is written: it is the first free one
 abbrev pub free_written : ℕ → Files → Files

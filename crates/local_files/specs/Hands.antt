@@ -15,7 +15,7 @@ use Rattle.xinu_model.specs.Files.Writing.{overwritten, fitting}
 use Rattle.file_laws.specs.StoredFiles.{stored_files, entry_bytes, entry_chain, entry_data}
 use Rattle.file_laws.specs.Changing.{IsCut}
 use Rattle.file_laws.specs.Holds.{Holds}
-use Rattle.local_files.specs.Steps.{shown, device_at, device_of}
+use Rattle.local_files.specs.Steps.{shown, device_at, device_of, block_of_index}
 use Rattle.local_files.specs.Cuts.{word_block, freed_index}
 use Rattle.xinu_base.specs.declared.files.OpenMode.{OpenMode}
 use Rattle.local_files.specs.declared.OpenFile.{OpenFile}
@@ -279,7 +279,7 @@ pub record IsCutRead (e : Files) (base disk : List ℕ) : Type 0 where
 pub record IsCutWrite (e : Files) (base disk : List ℕ) : Type 0 where
   pub read : IsCutRead e base disk
   pub index : e.index ≡ index_for e.reached read.cutting.chain read.cutting.blocks
-  pub put : IsIndexPut (block_in disk (6 + e.at / 7)) (e.at % 7) (freed_index e.index e) e.block
+  pub put : IsIndexPut (block_in disk (block_of_index e.at)) (e.at % 7) (freed_index e.index e) e.block
 
 -- a data block of the index block before is to be written, freed
 pub record IsFreeWrite (e : Files) (b : ℕ) (base disk : List ℕ) : Type 0 where

@@ -11,8 +11,9 @@ use Rattle.xinu_base.specs.declared.files.OpenMode.{OpenMode}
 use Rattle.local_files.specs.declared.OpenFile.{OpenFile}
 use Rattle.local_files.specs.declared.FileCall.{FileCall}
 use Rattle.local_files.specs.declared.FileCall.TheVariants.{Open, Delete}
-use Rattle.local_files.specs.declared.Phase.TheVariants.{Search, EntryRead}
 use Rattle.local_files.specs.declared.Files.{Files}
+use Rattle.local_files.specs.declared.Phase.TheVariants.{Wants}
+use Rattle.local_files.specs.declared.Purpose.TheVariants.{Search, EntryRead}
 
 -- what a device has open at first
 abbrev pub opening : ℕ → Entry → OpenMode → OpenFile
@@ -49,7 +50,7 @@ sizing (Some f) e = answered (counted f.entry.size) e
 
 -- a name is looked for
 abbrev pub looking : FileCall → Files → Files
-looking call e = record e { call = call; slot = 78; phase = Search 0 }
+looking call e = record e { call = call; slot = 78; phase = Wants (Search 0) }
 
 -- an open begins: refused if the file is open or no device is free
 abbrev pub beginning : Bool → FileCall → Files → Files
@@ -71,13 +72,13 @@ missing (Open name mode) e =
     if mode.only_old || nat_le 78 e.slot then answered (negsuc 0) e else record e {
       entry = empty_entry name;
       header = one_more e.header;
-      phase = EntryRead;
+      phase = Wants EntryRead;
     }
 missing _ e = answered (negsuc 0) e
 
 -- the search goes on, or has passed the last block
 abbrev pub searching_on : ℕ → Files → Files
-searching_on d e = if nat_lt d 5 then record e { phase = Search (d + 1) } else missing e.call e
+searching_on d e = if nat_lt d 5 then record e { phase = Wants (Search (d + 1)) } else missing e.call e
 
 -- a call on a device that wrote the directory is done
 abbrev pub ended_at : Option ℕ → Files → Files

@@ -5,12 +5,13 @@ use Rattle.lfs_format.specs.declared.Dir.{Dir}
 use Rattle.lfs_check.specs.Fields.{header_2}
 use Rattle.lfs_check.specs.Meets.{null}
 use Rattle.local_files.specs.Buffers.{put_at, patched}
-use Rattle.local_files.specs.Steps.{answered, at_byte, piece, is_truncate}
+use Rattle.local_files.specs.Steps.{answered, at_byte, piece, is_truncate, going_on}
 use Rattle.local_files.specs.Cuts.{cutting, held_file}
 use Rattle.local_files.specs.declared.OpenFile.{OpenFile}
 use Rattle.local_files.specs.declared.FileCall.{FileCall}
-use Rattle.local_files.specs.declared.Phase.TheVariants.{Reach, PatchRead, PatchWrite, TakeRead, TakeWrite, AddRead, AddWrite, NewRead, NewWrite, LinkRead, LinkWrite, EntryRead}
 use Rattle.local_files.specs.declared.Files.{Files}
+use Rattle.local_files.specs.declared.Phase.TheVariants.{Wants}
+use Rattle.local_files.specs.declared.Purpose.TheVariants.{Reach, PatchRead, PatchWrite, TakeRead, TakeWrite, AddRead, AddWrite, NewRead, NewWrite, LinkRead, LinkWrite, EntryRead}
 
 -- a write of these bytes begins
 abbrev pub writing : OpenFile → List ℕ → FileCall → Files → Files
@@ -32,7 +33,7 @@ writing_at (Some f) bytes call e = writing f bytes call e
 
 -- no more bytes are put: refused if there are none
 abbrev pub end_put : Files → Files
-end_put e = if e.done == 0 then answered (negsuc 0) e else record e { phase = EntryRead }
+end_put e = if e.done == 0 then answered (negsuc 0) e else record e { phase = Wants EntryRead }
 
 -- whether the next bytes need a new data block
 abbrev pub at_end : Files → Bool
@@ -42,31 +43,19 @@ at_end e = nat_eq (at_byte e) e.entry.size && (at_byte e % 512 == 0)
 abbrev pub target : Files → ℕ
 target e = if at_end e && nat_lt 0 (at_byte e) then (at_byte e - 1) / 8192 else at_byte e / 8192
 
--- goes on to an index block, if there is such a block
-abbrev pub reaching : ℕ → ℕ → Files → Files
-reaching rest at e = if nat_lt (6 + at / 7) e.blocks then record e { phase = Reach rest at } else answered (negsuc 0) e
-
 -- goes on to the index block that is needed
 abbrev pub reach_to : Files → Files
-reach_to e = if e.reached == 0 then reaching (target e) e.entry.first e else reaching 0 e.index.next e
-
--- goes on to the first free data block, if there is such a block
-abbrev pub taking : Files → Files
-taking e = if nat_lt e.header.free_data e.blocks then record e { phase = TakeRead e.header.free_data } else answered (negsuc 0) e
+reach_to e = if e.reached == 0 then going_on (Reach (target e) e.entry.first) e else going_on (Reach 0 e.index.next) e
 
 -- the next bytes need a new data block
 abbrev pub appending : Files → Files
 appending e =
     if (e.header.free_data == null) || ((at_byte e % 8192 == 0) && (e.header.free_index == null)) then end_put e
-    else (if (at_byte e == 0) || (e.reached == target e + 1) then taking e else reach_to e)
-
--- goes on to a data block of the file, if there is such a block
-abbrev pub patching : ℕ → Files → Files
-patching b e = if nat_lt b e.blocks then record e { phase = PatchRead b } else answered (negsuc 0) e
+    else (if (at_byte e == 0) || (e.reached == target e + 1) then going_on (TakeRead e.header.free_data) e else reach_to e)
 
 -- the next bytes go into a data block of the file
 abbrev pub in_place : Files → Files
-in_place e = if e.reached == target e + 1 then patching (slice_index e.index.blocks (at_byte e / 512 % 16)) e else reach_to e
+in_place e = if e.reached == target e + 1 then going_on (PatchRead (slice_index e.index.blocks (at_byte e / 512 % 16))) e else reach_to e
 
 -- goes on with the bytes that are left
 abbrev pub next_put : Files → Files
@@ -80,11 +69,11 @@ counts_read dir e =
 -- an index block was read
 abbrev pub reached : ℕ → ℕ → Index → Files → Files
 reached zero at index e = next_put (record e { index = index; at = at; reached = target e + 1 })
-reached (suc rest) at index e = reaching rest index.next (record e { index = index; at = at })
+reached (suc rest) at index e = going_on (Reach rest index.next) (record e { index = index; at = at })
 
 -- a data block of the file was read
 abbrev pub patch_read : ℕ → List ℕ → Files → Files
-patch_read b block e = record e { block = patched e.done (piece e) (at_byte e % 512) e.buffer block; phase = PatchWrite b }
+patch_read b block e = record e { block = patched e.done (piece e) (at_byte e % 512) e.buffer block; phase = Wants (PatchWrite b) }
 
 -- the bytes are on the disk
 abbrev pub put_done : Files → Files
@@ -96,16 +85,12 @@ abbrev pub take_read : ℕ → ℕ → Files → Files
 take_read b next e = record e {
   header = record e.header { free_data = next };
   block = patched e.done (piece e) 0 e.buffer (replicate 512 0);
-  phase = TakeWrite b;
+  phase = Wants (TakeWrite b);
 }
-
--- goes on to a free index block, if there is such a block
-abbrev pub newing : ℕ → ℕ → Files → Files
-newing b i e = if nat_lt (6 + i / 7) e.blocks then record e { phase = NewRead b i } else answered (negsuc 0) e
 
 -- the data block is written
 abbrev pub take_written : ℕ → Files → Files
-take_written b e = if at_byte e % 8192 == 0 then newing b e.header.free_index e else record e { phase = AddRead b }
+take_written b e = if at_byte e % 8192 == 0 then going_on (NewRead b e.header.free_index) e else record e { phase = Wants (AddRead b) }
 
 -- the last index block with one data block more
 abbrev pub added_index : ℕ → Files → Index
@@ -113,7 +98,7 @@ added_index b e = record e.index { blocks = slice_set e.index.blocks (at_byte e 
 
 -- the last index block was read
 abbrev pub add_read : ℕ → List ℕ → Files → Files
-add_read b block e = record e { block = block; phase = AddWrite b }
+add_read b block e = record e { block = block; phase = Wants (AddWrite b) }
 
 -- the engine has another index block
 abbrev pub with_index : Index → Files → Files
@@ -125,7 +110,7 @@ fresh_index b e = record { next = null; offset = at_byte e; blocks = slice_set (
 
 -- a free index block was read
 abbrev pub new_read : ℕ → ℕ → Index → List ℕ → Files → Files
-new_read b i old block e = record e { header = record e.header { free_index = old.next }; block = block; phase = NewWrite b i }
+new_read b i old block e = record e { header = record e.header { free_index = old.next }; block = block; phase = Wants (NewWrite b i) }
 
 -- the new index block is the last
 abbrev pub followed : ℕ → ℕ → Files → Files
@@ -136,7 +121,7 @@ abbrev pub new_written : ℕ → ℕ → Files → Files
 new_written b i e =
     if at_byte e == 0 then next_put (put_done (followed b i (record e { entry = record e.entry { first = i } }))) else record e {
       phase =
-          LinkRead b i;
+          (Wants (LinkRead b i));
     }
 
 -- the index block that is named by the one before it
@@ -145,4 +130,4 @@ linked_index i index = record index { next = i }
 
 -- the last index block was read
 abbrev pub link_read : ℕ → ℕ → List ℕ → Files → Files
-link_read b i block e = record e { block = block; phase = LinkWrite b i }
+link_read b i block e = record e { block = block; phase = Wants (LinkWrite b i) }

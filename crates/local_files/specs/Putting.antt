@@ -9,7 +9,7 @@ use Rattle.xinu_model.specs.Files.Writing.{overwritten}
 use Rattle.file_laws.specs.StoredFiles.{entry_bytes}
 use Rattle.file_laws.specs.Middle.{IsMiddle}
 use Rattle.local_files.specs.Buffers.{patched}
-use Rattle.local_files.specs.Steps.{device_at, device_of, at_byte, piece, is_truncate}
+use Rattle.local_files.specs.Steps.{device_at, device_of, at_byte, piece, is_truncate, block_of_index}
 use Rattle.local_files.specs.Puts.{at_end, target, fresh_index, linked_index, added_index}
 use Rattle.local_files.specs.declared.OpenFile.{OpenFile}
 use Rattle.local_files.specs.declared.FileCall.{FileCall}
@@ -112,7 +112,7 @@ pub record IsFilled (e : Files) (b : ℕ) (base disk : List ℕ) : Type 0 where
 pub record IsAddWrite (e : Files) (b : ℕ) (base disk : List ℕ) : Type 0 where
   pub filled : IsFilled e b base disk
   pub room : at_byte e % 8192 ≢ 0
-  pub put : IsIndexPut (block_in disk (6 + e.at / 7)) (e.at % 7) (added_index b e) e.block
+  pub put : IsIndexPut (block_in disk (block_of_index e.at)) (e.at % 7) (added_index b e) e.block
 
 -- an index block is taken besides
 pub record IsNew (e : Files) (b i : ℕ) (base disk : List ℕ) : Type 0 where
@@ -130,19 +130,19 @@ pub record IsNew (e : Files) (b i : ℕ) (base disk : List ℕ) : Type 0 where
 -- it is to be written with the number
 pub record IsNewWrite (e : Files) (b i : ℕ) (base disk : List ℕ) : Type 0 where
   pub new : IsNew e b i base disk
-  pub put : IsIndexPut (block_in disk (6 + i / 7)) (i % 7) (fresh_index b e) e.block
+  pub put : IsIndexPut (block_in disk (block_of_index i)) (i % 7) (fresh_index b e) e.block
 
 -- it has the number, and the last index block is to name it
 pub record IsLink (e : Files) (b i : ℕ) (base disk : List ℕ) : Type 0 where
   pub new : IsNew e b i base disk
   pub some : 0 < at_byte e
-  pub written : index_at (i % 7) (block_in disk (6 + i / 7)) ≡ fresh_index b e
+  pub written : index_at (i % 7) (block_in disk (block_of_index i)) ≡ fresh_index b e
 
 -- the last index block is to be written so
 pub record IsLinkWrite (e : Files) (b i : ℕ) (base disk : List ℕ) : Type 0 where
   pub link : IsLink e b i base disk
-  pub put : IsIndexPut (block_in disk (6 + e.at / 7)) (e.at % 7)
-      (linked_index i (index_at (e.at % 7) (block_in disk (6 + e.at / 7)))) e.block
+  pub put : IsIndexPut (block_in disk (block_of_index e.at)) (e.at % 7)
+      (linked_index i (index_at (e.at % 7) (block_in disk (block_of_index e.at)))) e.block
 
 -- a call that puts bytes begins
 pub record IsBegun (e : Files) (file : OpenFile) : Type 0 where

@@ -7,9 +7,9 @@ use Rattle.xinu_model.specs.Files.Systems.{is_open}
 use Rattle.xinu_model.specs.Files.Work.{FileRequest, FileWork}
 use Rattle.xinu_model.specs.Files.Rest.{names_file}
 use Rattle.local_files.specs.Hands.{system}
+use Rattle.local_files.specs.Steps.{block_of}
 use Rattle.local_files.specs.Standing.{wanted, call_of, call_bytes}
 use Rattle.local_files.specs.declared.BlockWork.{BlockWork}
-use Rattle.local_files.specs.declared.BlockWork.TheVariants.{Read, Write}
 use Rattle.local_files.specs.declared.Files.{Files}
 
 -- Names of files at rest: none of them is open, and the call in hand names none of them.
@@ -22,11 +22,6 @@ abbrev pub IsFirstCall : Option BlockWork → FileCall → List FileRequest → 
 IsFirstCall None call calls = Unit {0}
 IsFirstCall (Some w) call [] = ⊥
 IsFirstCall (Some w) call (a ∷ calls) = a.call ≡ call
-
--- the number of the block
-abbrev pub block_of : BlockWork → ℕ
-block_of (Read n) = n
-block_of (Write n) = n
 
 -- work on a block of a disk of this many blocks, if there is any
 abbrev pub IsOnDisk : Option BlockWork → ℕ → Type 0

@@ -1,20 +1,23 @@
 -- What the file engine stands for, together with a disk, and what its completions do.
-use Rattle.std.specs.Prelude.{ℕ, ◌≡◌, ◌≢◌, ◌+◌, ◌*◌, ◌/◌, ◌%◌, List, [], length, take, Option, Some, None, ℤ}
+use Rattle.std.specs.Prelude.{ℕ, ◌≡◌, ◌≢◌, ◌*◌, ◌%◌, List, [], length, take, Option, Some, None, slice_index_or, ℤ}
 use Rattle.lfs_check.specs.Disks.{block_put}
 use Rattle.lfs_check.specs.Rules.{block_in}
 use Rattle.lfs_layout.specs.Files.{bare_name}
 use Rattle.lfs_layout.specs.Images.{IsCleanImage}
 use Rattle.xinu_model.specs.Files.Calls as model
 use Rattle.xinu_model.specs.Files.Systems.{FileSystem, FileEffect}
-use Rattle.local_files.specs.Steps.{device_at, at_byte}
+use Rattle.local_files.specs.Steps.{at_byte, block_for}
 use Rattle.local_files.specs.Hands.{system, IsDevice, AreApart, put_bytes, IsSearch, IsWalking, IsFetching, IsCutRead, IsCutWrite, IsFreeWrite, IsClosing, IsEntryWrite, IsHeaderRead, IsHeaderWrite}
 use Rattle.local_files.specs.Putting.{IsCounting, IsReach, IsPatch, IsPatched, IsTake, IsTakeWrite, IsFilled, IsAddWrite, IsNewWrite, IsLink, IsLinkWrite}
 use Rattle.local_files.specs.declared.BlockWork.{BlockWork}
 use Rattle.local_files.specs.declared.BlockWork.TheVariants as work
+use Rattle.local_files.specs.declared.OpenFile.{OpenFile}
 use Rattle.local_files.specs.declared.FileCall.{FileCall}
 use Rattle.local_files.specs.declared.FileCall.TheVariants.{Open, Delete, Close, Read, Write, Getc, Putc, Seek, Truncate, Size}
 use Rattle.local_files.specs.declared.Phase.{Phase}
-use Rattle.local_files.specs.declared.Phase.TheVariants.{Idle, Done, Search, Walk, Fetch, Counts, Reach, PatchRead, PatchWrite, TakeRead, TakeWrite, AddRead, AddWrite, NewRead, NewWrite, LinkRead, LinkWrite, CutRead, CutWrite, FreeWrite, EntryRead, EntryWrite, HeaderRead, HeaderWrite}
+use Rattle.local_files.specs.declared.Phase.TheVariants.{Idle, Done, Wants}
+use Rattle.local_files.specs.declared.Purpose.{Purpose}
+use Rattle.local_files.specs.declared.Purpose.TheVariants.{Search, Walk, Fetch, Counts, Reach, PatchRead, PatchWrite, TakeRead, TakeWrite, AddRead, AddWrite, NewRead, NewWrite, LinkRead, LinkWrite, CutRead, CutWrite, FreeWrite, EntryRead, EntryWrite, HeaderRead, HeaderWrite}
 use Rattle.local_files.specs.declared.Files.{Files}
 
 -- The call as the abstract machine has it, with the bytes that a write puts.
@@ -43,71 +46,66 @@ call_bytes e = given_bytes e.call (put_bytes e)
 abbrev pub gathered : Files → List ℕ
 gathered e = take e.given e.buffer
 
--- What is so while the engine waits.
+-- What is so while a block is wanted for a purpose.
+abbrev pub IsWanted : Purpose → Files → List ℕ → List ℕ → Type 0
+IsWanted (Search d) e base disk = IsSearch e d base disk
+IsWanted (Walk rest at) e base disk = IsWalking e rest at base disk
+IsWanted (Fetch b) e base disk = IsFetching e b base disk
+IsWanted Counts e base disk = IsCounting e base disk
+IsWanted (Reach rest at) e base disk = IsReach e rest at base disk
+IsWanted (PatchRead b) e base disk = IsPatch e b base disk
+IsWanted (PatchWrite b) e base disk = IsPatched e b base disk
+IsWanted (TakeRead b) e base disk = IsTake e b base disk
+IsWanted (TakeWrite b) e base disk = IsTakeWrite e b base disk
+IsWanted (AddRead b) e base disk = IsFilled e b base disk × (at_byte e % 8192 ≢ 0)
+IsWanted (AddWrite b) e base disk = IsAddWrite e b base disk
+IsWanted (NewRead b i) e base disk = IsFilled e b base disk × ((at_byte e % 8192 ≡ 0) × (e.header.free_index ≡ i))
+IsWanted (NewWrite b i) e base disk = IsNewWrite e b i base disk
+IsWanted (LinkRead b i) e base disk = IsLink e b i base disk
+IsWanted (LinkWrite b i) e base disk = IsLinkWrite e b i base disk
+IsWanted CutRead e base disk = IsCutRead e base disk
+IsWanted CutWrite e base disk = IsCutWrite e base disk
+IsWanted (FreeWrite b) e base disk = IsFreeWrite e b base disk
+IsWanted EntryRead e base disk = IsClosing e base disk
+IsWanted EntryWrite e base disk = IsEntryWrite e base disk
+IsWanted HeaderRead e base disk = IsHeaderRead e base disk
+IsWanted HeaderWrite e base disk = IsHeaderWrite e base disk
+
+-- What is so while the engine waits: without a call in hand the disk is as it was.
 abbrev pub InHand : Phase → Files → List ℕ → List ℕ → Type 0
-InHand Idle e base disk = disk ≡ base
-InHand (Done r) e base disk = disk ≡ base
-InHand (Search d) e base disk = IsSearch e d base disk
-InHand (Walk rest at) e base disk = IsWalking e rest at base disk
-InHand (Fetch b) e base disk = IsFetching e b base disk
-InHand Counts e base disk = IsCounting e base disk
-InHand (Reach rest at) e base disk = IsReach e rest at base disk
-InHand (PatchRead b) e base disk = IsPatch e b base disk
-InHand (PatchWrite b) e base disk = IsPatched e b base disk
-InHand (TakeRead b) e base disk = IsTake e b base disk
-InHand (TakeWrite b) e base disk = IsTakeWrite e b base disk
-InHand (AddRead b) e base disk = IsFilled e b base disk × (at_byte e % 8192 ≢ 0)
-InHand (AddWrite b) e base disk = IsAddWrite e b base disk
-InHand (NewRead b i) e base disk = IsFilled e b base disk × ((at_byte e % 8192 ≡ 0) × (e.header.free_index ≡ i))
-InHand (NewWrite b i) e base disk = IsNewWrite e b i base disk
-InHand (LinkRead b i) e base disk = IsLink e b i base disk
-InHand (LinkWrite b i) e base disk = IsLinkWrite e b i base disk
-InHand CutRead e base disk = IsCutRead e base disk
-InHand CutWrite e base disk = IsCutWrite e base disk
-InHand (FreeWrite b) e base disk = IsFreeWrite e b base disk
-InHand EntryRead e base disk = IsClosing e base disk
-InHand EntryWrite e base disk = IsEntryWrite e base disk
-InHand HeaderRead e base disk = IsHeaderRead e base disk
-InHand HeaderWrite e base disk = IsHeaderWrite e base disk
+InHand (Wants purpose) e base disk = IsWanted purpose e base disk
+InHand _ e base disk = disk ≡ base
+
+-- On a clean base of n blocks the devices have different files open.
+pub record AreOpenOn (n : ℕ) (devices : List (Option OpenFile)) (base : List ℕ) : Type 0 where
+  pub clean : IsCleanImage base
+  pub blocks : length base ≡ 512 * n
+  pub six : length devices ≡ 6
+  pub device : (d : ℕ) → IsDevice base (slice_index_or devices d None)
+  pub apart : (c d : ℕ) → c ≢ d → AreApart (slice_index_or devices c None) (slice_index_or devices d None)
+
+-- What the engine has of a disk, whatever it waits for: the open files, the disk's size, and room for a block and for the bytes of a call.
+pub record HasDisk (n : ℕ) (devices : List (Option OpenFile)) (out bytes base disk : List ℕ) : Type 0 where
+  pub opened : AreOpenOn n devices base
+  pub open opened use *
+  pub whole : length disk ≡ length base
+  pub outgoing : length out ≡ 512
+  pub buffer : length bytes ≡ 1048576
+
+-- the same of the engine
+abbrev pub IsStanding : Files → List ℕ → List ℕ → Type 0
+IsStanding e base disk = HasDisk e.blocks e.devices e.block e.buffer base disk
 
 -- The engine stands for a disk as it was when the call in hand began, together with the disk as it is.
 pub record Stands (e : Files) (base disk : List ℕ) : Type 0 where
-  pub clean : IsCleanImage base
-  pub blocks : length base ≡ 512 * e.blocks
-  pub whole : length disk ≡ length base
-  pub six : length e.devices ≡ 6
-  pub outgoing : length e.block ≡ 512
-  pub buffer : length e.buffer ≡ 1048576
-  pub device : (d : ℕ) → IsDevice base (device_at e d)
-  pub apart : (c d : ℕ) → c ≢ d → AreApart (device_at e c) (device_at e d)
+  pub standing : IsStanding e base disk
+  pub open standing use *
   pub hand : InHand e.phase e base disk
 
 -- the work that is wanted
 abbrev pub wanted_in : Phase → Files → Option BlockWork
-wanted_in Idle e = None
-wanted_in (Done r) e = None
-wanted_in (Search d) e = Some (work.Read d)
-wanted_in (Walk rest at) e = Some (work.Read (6 + at / 7))
-wanted_in (Fetch b) e = Some (work.Read b)
-wanted_in Counts e = Some (work.Read 0)
-wanted_in (Reach rest at) e = Some (work.Read (6 + at / 7))
-wanted_in (PatchRead b) e = Some (work.Read b)
-wanted_in (PatchWrite b) e = Some (work.Write b)
-wanted_in (TakeRead b) e = Some (work.Read b)
-wanted_in (TakeWrite b) e = Some (work.Write b)
-wanted_in (AddRead b) e = Some (work.Read (6 + e.at / 7))
-wanted_in (AddWrite b) e = Some (work.Write (6 + e.at / 7))
-wanted_in (NewRead b i) e = Some (work.Read (6 + i / 7))
-wanted_in (NewWrite b i) e = Some (work.Write (6 + i / 7))
-wanted_in (LinkRead b i) e = Some (work.Read (6 + e.at / 7))
-wanted_in (LinkWrite b i) e = Some (work.Write (6 + e.at / 7))
-wanted_in CutRead e = Some (work.Read (6 + e.at / 7))
-wanted_in CutWrite e = Some (work.Write (6 + e.at / 7))
-wanted_in (FreeWrite b) e = Some (work.Write b)
-wanted_in EntryRead e = Some (work.Read (e.slot / 13))
-wanted_in EntryWrite e = Some (work.Write (e.slot / 13))
-wanted_in HeaderRead e = Some (work.Read 0)
-wanted_in HeaderWrite e = Some (work.Write 0)
+wanted_in (Wants purpose) e = Some (block_for purpose e)
+wanted_in _ e = None
 
 -- the same of the engine
 abbrev pub wanted : Files → Option BlockWork
@@ -141,7 +139,7 @@ abbrev pub GoesTo : Phase → FileCall → List ℕ → Files → Files → List
 GoesTo (Done reply) call bytes old new base disk =
     HasEffect call bytes (system old base) reply (gathered new) (system new disk) × Stands new disk disk
 GoesTo Idle call bytes old new base disk = ⊥
-GoesTo _ call bytes old new base disk = Stands new base disk × (new.call ≡ call) × (call_bytes new ≡ bytes)
+GoesTo (Wants purpose) call bytes old new base disk = Stands new base disk × (new.call ≡ call) × (call_bytes new ≡ bytes)
     × (system new base ≡ system old base)
 
 -- the reply, once it stands

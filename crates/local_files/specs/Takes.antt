@@ -1,20 +1,13 @@
 -- The steps of `read` and `getc`.
-use Rattle.std.specs.Prelude.{ℕ, zero, suc, ◌+◌, ◌-◌, ◌/◌, ◌%◌, ◌==◌, not, nat_le, nat_lt, if◌then◌else◌, min, List, take, drop, Option, Some, None, slice_index, pos, negsuc}
+use Rattle.std.specs.Prelude.{ℕ, zero, suc, ◌+◌, ◌-◌, ◌/◌, ◌%◌, ◌==◌, not, nat_le, if◌then◌else◌, min, List, take, drop, Option, Some, None, slice_index, pos, negsuc}
 use Rattle.lfs_format.specs.declared.Index.{Index}
 use Rattle.local_files.specs.Buffers.{put_at}
-use Rattle.local_files.specs.Steps.{is_getc, named_device, answered, device_at, moved_to, counted, at_byte, piece}
+use Rattle.local_files.specs.Steps.{is_getc, named_device, answered, device_at, moved_to, counted, at_byte, piece, going_on}
 use Rattle.local_files.specs.declared.OpenFile.{OpenFile}
 use Rattle.local_files.specs.declared.FileCall.{FileCall}
-use Rattle.local_files.specs.declared.Phase.TheVariants.{Done, Walk, Fetch}
 use Rattle.local_files.specs.declared.Files.{Files}
-
--- a read goes on to an index block, if there is such a block
-abbrev pub walking : ℕ → ℕ → Files → Files
-walking rest at e = if nat_lt (6 + at / 7) e.blocks then record e { phase = Walk rest at } else answered (negsuc 0) e
-
--- it goes on to a data block, if there is such a block
-abbrev pub fetching : ℕ → Files → Files
-fetching b e = if nat_lt b e.blocks then record e { phase = Fetch b } else answered (negsuc 0) e
+use Rattle.local_files.specs.declared.Phase.TheVariants.{Done}
+use Rattle.local_files.specs.declared.Purpose.TheVariants.{Walk, Fetch}
 
 -- a read of n bytes begins
 abbrev pub reading : OpenFile → ℕ → FileCall → Files → Files
@@ -22,7 +15,7 @@ reading f n call e =
     if not f.read then answered (negsuc 0) e
     else (if n == 0 then answered (pos 0) e
     else (if nat_le f.entry.size f.position then answered (negsuc 1) e
-    else walking (f.position / 8192) f.entry.first (record e {
+    else going_on (Walk (f.position / 8192) f.entry.first) (record e {
       call = call;
       position = f.position;
       total = min n (f.entry.size - f.position);
@@ -36,8 +29,8 @@ reading_at (Some f) n call e = reading f n call e
 
 -- an index block was read
 abbrev pub walked : ℕ → Index → Files → Files
-walked zero index e = fetching (slice_index index.blocks (at_byte e / 512 % 16)) (record e { index = index })
-walked (suc rest) index e = walking rest index.next (record e { index = index })
+walked zero index e = going_on (Fetch (slice_index index.blocks (at_byte e / 512 % 16))) (record e { index = index })
+walked (suc rest) index e = going_on (Walk rest index.next) (record e { index = index })
 
 -- the bytes of a data block are taken
 abbrev pub with_taken : List ℕ → Files → Files
@@ -48,7 +41,7 @@ with_taken block e = record e {
 
 -- the next data block
 abbrev pub next_fetch : Files → Files
-next_fetch e = if at_byte e % 8192 == 0 then walking 0 e.index.next e else fetching (slice_index e.index.blocks (at_byte e / 512 % 16)) e
+next_fetch e = if at_byte e % 8192 == 0 then going_on (Walk 0 e.index.next) e else going_on (Fetch (slice_index e.index.blocks (at_byte e / 512 % 16))) e
 
 -- all bytes are read
 abbrev pub given_all : Files → Files

@@ -4,9 +4,9 @@ ghost use Rattle.std.specs.Prelude.{◌≡◌, ◌<◌, ◌≤◌, ◌+◌, ◌/
 ghost use Rattle.lfs_format.specs.Words.{word_of};
 ghost use Rattle.lfs_format.specs.Indexes.{index_at, IsIndexPut};
 ghost use Rattle.local_files.specs.Steps.{device_at};
-ghost use Rattle.local_files.specs.Cuts.{truncating_at, truncating, cutting, cut_at, cut_read, freed_index, cut_written, free_next, freeing, free_written, end_cut, word_block};
+ghost use Rattle.local_files.specs.Cuts.{truncating_at, truncating, cutting, cut_read, freed_index, cut_written, free_next, freeing, free_written, end_cut, word_block};
 
-use crate::{FileCall, FileDev, Files, OpenFile, Phase};
+use crate::{FileCall, FileDev, Files, OpenFile, Phase, Purpose};
 use byteorder::{ByteOrder, LittleEndian};
 use lfs_format::{Index, NULL, read_index, write_index};
 
@@ -47,18 +47,7 @@ impl Files {
         if empty {
             self.end_cut();
         } else {
-            self.cut_at();
-        }
-    }
-
-    // Goes on to an index block, if there is such a block.
-    fn cut_at(&mut self)
-        ensures new { self.new ≡ cut_at self.old }
-    {
-        if 6 + self.at / 7 < self.blocks {
-            self.phase = Phase::CutRead;
-        } else {
-            self.answer_with(-1);
+            self.go_on(Purpose::CutRead);
         }
     }
 
@@ -75,7 +64,7 @@ impl Files {
         };
         self.block = *read;
         write_index(&freed, &mut self.block, k);
-        self.phase = Phase::CutWrite;
+        self.phase = Phase::Wants(Purpose::CutWrite);
     }
 
     // It is written: it is the first free one, and its data blocks come next.
@@ -96,7 +85,7 @@ impl Files {
             self.free(self.index.blocks[self.freed as usize % 16]);
         } else if self.index.next != NULL {
             self.at = self.index.next;
-            self.cut_at();
+            self.go_on(Purpose::CutRead);
         } else {
             self.end_cut();
         }
@@ -110,7 +99,7 @@ impl Files {
             let next = self.header.free_data;
             self.block = [0; 512];
             LittleEndian::write_u32(&mut self.block[..4], next);
-            self.phase = Phase::FreeWrite(b);
+            self.phase = Phase::Wants(Purpose::FreeWrite { block: b });
         } else {
             self.answer_with(-1);
         }
@@ -133,6 +122,6 @@ impl Files {
             self.entry.name = [0; 28];
             self.header.files = self.header.files.wrapping_sub(1);
         }
-        self.phase = Phase::EntryRead;
+        self.phase = Phase::Wants(Purpose::EntryRead);
     }
 }

@@ -7,31 +7,31 @@ ghost use Rattle.local_files.specs.Steps.{lowest_free, named_device};
 ghost use Rattle.local_files.specs.Opens.{ended, ended_at};
 
 use crate::table::count;
-use crate::{FileCall, FileDev, Files, Phase};
+use crate::{FileCall, FileDev, Files, Phase, Purpose};
 use lfs_format::{read_dir, write_dir};
 
 impl Files {
     // The directory block of the entry is read: it gets the entry.
     pub(crate) fn put_entry(&mut self, read: &[u8; 512])
-        ensures new { self.new ≡ record self.old { phase = Phase.EntryWrite; block = self.new.block } }
+        ensures new { self.new ≡ record self.old { phase = Phase.Wants Purpose.EntryWrite; block = self.new.block } }
         ensures block { IsDirBlock (dir_with_entry (dir_of read.now) (self.old.slot % 13) self.old.entry) self.new.block }
     {
         let mut dir = read_dir(read);
         dir.entries[self.slot as usize % 13] = self.entry;
         write_dir(&dir, &mut self.block);
-        self.phase = Phase::EntryWrite;
+        self.phase = Phase::Wants(Purpose::EntryWrite);
     }
 
     // The directory block of the entry is written.
     pub(crate) fn entry_written(&mut self)
-        ensures new { self.new ≡ record self.old { phase = Phase.HeaderRead } }
+        ensures new { self.new ≡ record self.old { phase = Phase.Wants Purpose.HeaderRead } }
     {
-        self.phase = Phase::HeaderRead;
+        self.phase = Phase::Wants(Purpose::HeaderRead);
     }
 
     // The first directory block is read: it gets the counts.
     pub(crate) fn put_header(&mut self, read: &[u8; 512])
-        ensures new { self.new ≡ record self.old { phase = Phase.HeaderWrite; block = self.new.block } }
+        ensures new { self.new ≡ record self.old { phase = Phase.Wants Purpose.HeaderWrite; block = self.new.block } }
         ensures block { IsDirBlock (dir_with_header (dir_of read.now) self.old.header) self.new.block }
     {
         let mut dir = read_dir(read);
@@ -39,7 +39,7 @@ impl Files {
         dir.free_index = self.header.free_index;
         dir.files = self.header.files;
         write_dir(&dir, &mut self.block);
-        self.phase = Phase::HeaderWrite;
+        self.phase = Phase::Wants(Purpose::HeaderWrite);
     }
 
     // The counts are written: the call has its effect.

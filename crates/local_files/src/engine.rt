@@ -8,7 +8,7 @@ ghost use Rattle.local_files.specs.Bounds.{left};
 ghost use Rattle.xinu_model.specs.Files.Work.{most_turns};
 ghost use Rattle.lfs_layout.specs.Images.{IsCleanImage};
 
-use crate::{BlockWork, Buffer, FileCall, Files, Phase};
+use crate::{BlockWork, Buffer, FileCall, Files, Phase, Purpose};
 use lfs_check::Header;
 use lfs_format::{Entry, Index};
 use std::alloc::Global;
@@ -97,28 +97,7 @@ impl Files {
     {
         match self.phase {
             Phase::Idle | Phase::Done(_) => None,
-            Phase::Search(d) => Some(BlockWork::Read(d)),
-            Phase::Walk(_, at) => Some(BlockWork::Read(6 + at / 7)),
-            Phase::Fetch(b) => Some(BlockWork::Read(b)),
-            Phase::Counts => Some(BlockWork::Read(0)),
-            Phase::Reach(_, at) => Some(BlockWork::Read(6 + at / 7)),
-            Phase::PatchRead(b) => Some(BlockWork::Read(b)),
-            Phase::PatchWrite(b) => Some(BlockWork::Write(b)),
-            Phase::TakeRead(b) => Some(BlockWork::Read(b)),
-            Phase::TakeWrite(b) => Some(BlockWork::Write(b)),
-            Phase::AddRead(_) => Some(BlockWork::Read(6 + self.at / 7)),
-            Phase::AddWrite(_) => Some(BlockWork::Write(6 + self.at / 7)),
-            Phase::NewRead(_, i) => Some(BlockWork::Read(6 + i / 7)),
-            Phase::NewWrite(_, i) => Some(BlockWork::Write(6 + i / 7)),
-            Phase::LinkRead(_, _) => Some(BlockWork::Read(6 + self.at / 7)),
-            Phase::LinkWrite(_, _) => Some(BlockWork::Write(6 + self.at / 7)),
-            Phase::CutRead => Some(BlockWork::Read(6 + self.at / 7)),
-            Phase::CutWrite => Some(BlockWork::Write(6 + self.at / 7)),
-            Phase::FreeWrite(b) => Some(BlockWork::Write(b)),
-            Phase::EntryRead => Some(BlockWork::Read(self.slot / 13)),
-            Phase::EntryWrite => Some(BlockWork::Write(self.slot / 13)),
-            Phase::HeaderRead => Some(BlockWork::Read(0)),
-            Phase::HeaderWrite => Some(BlockWork::Write(0)),
+            Phase::Wants(purpose) => Some(self.block_for(purpose)),
         }
     }
 
@@ -161,28 +140,41 @@ impl Files {
     {
         match self.phase {
             Phase::Idle | Phase::Done(_) => {}
-            Phase::Search(d) => self.search(d, read),
-            Phase::Walk(rest, at) => self.walked(rest, at, read),
-            Phase::Fetch(_) => self.fetched(read),
-            Phase::Counts => self.counts_read(read),
-            Phase::Reach(rest, at) => self.reached(rest, at, read),
-            Phase::PatchRead(b) => self.patch_read(b, read),
-            Phase::PatchWrite(_) => self.piece_written(),
-            Phase::TakeRead(b) => self.take_read(b, read),
-            Phase::TakeWrite(b) => self.take_written(b),
-            Phase::AddRead(b) => self.add_read(b, read),
-            Phase::AddWrite(b) => self.add_written(b),
-            Phase::NewRead(b, i) => self.new_read(b, i, read),
-            Phase::NewWrite(b, i) => self.new_written(b, i),
-            Phase::LinkRead(b, i) => self.link_read(b, i, read),
-            Phase::LinkWrite(b, i) => self.follow(b, i),
-            Phase::CutRead => self.cut_read(read),
-            Phase::CutWrite => self.cut_written(),
-            Phase::FreeWrite(b) => self.free_written(b),
-            Phase::EntryRead => self.put_entry(read),
-            Phase::EntryWrite => self.entry_written(),
-            Phase::HeaderRead => self.put_header(read),
-            Phase::HeaderWrite => self.header_written(),
+            Phase::Wants(purpose) => self.serve(purpose, read),
+        }
+    }
+
+    // The block that is wanted for a purpose is read or written.
+    fn serve(&mut self, purpose: Purpose, read: &[u8; 512])
+        requires phase { self.old.phase ≡ Phase.Wants purpose }
+        ensures goes { (base disk : List ℕ) → Stands self.old base disk → IsHonest self.old read.now disk
+            → GoesTo self.new.phase self.old.call (call_bytes self.old) self.old self.new base (served self.old disk) }
+        ensures less { (base disk : List ℕ) → Stands self.old base disk → IsHonest self.old read.now disk
+            → left self.new base < left self.old base }
+    {
+        match purpose {
+            Purpose::Search { block } => self.search(block, read),
+            Purpose::Walk { rest, index } => self.walked(rest, index, read),
+            Purpose::Fetch { .. } => self.fetched(read),
+            Purpose::Counts => self.counts_read(read),
+            Purpose::Reach { rest, index } => self.reached(rest, index, read),
+            Purpose::PatchRead { block } => self.patch_read(block, read),
+            Purpose::PatchWrite { .. } => self.piece_written(),
+            Purpose::TakeRead { block } => self.take_read(block, read),
+            Purpose::TakeWrite { block } => self.take_written(block),
+            Purpose::AddRead { block } => self.add_read(block, read),
+            Purpose::AddWrite { block } => self.add_written(block),
+            Purpose::NewRead { block, index } => self.new_read(block, index, read),
+            Purpose::NewWrite { block, index } => self.new_written(block, index),
+            Purpose::LinkRead { block, index } => self.link_read(block, index, read),
+            Purpose::LinkWrite { block, index } => self.follow(block, index),
+            Purpose::CutRead => self.cut_read(read),
+            Purpose::CutWrite => self.cut_written(),
+            Purpose::FreeWrite { block } => self.free_written(block),
+            Purpose::EntryRead => self.put_entry(read),
+            Purpose::EntryWrite => self.entry_written(),
+            Purpose::HeaderRead => self.put_header(read),
+            Purpose::HeaderWrite => self.header_written(),
         }
     }
 }

@@ -4,24 +4,13 @@ ghost use Rattle.std.specs.Prelude.{◌≡◌, ◌<◌, ◌≤◌, ◌+◌, ◌/
 ghost use Rattle.lfs_format.specs.Words.{word_of};
 ghost use Rattle.lfs_format.specs.Indexes.{index_at, IsIndexPut};
 ghost use Rattle.local_files.specs.Steps.{at_byte};
-ghost use Rattle.local_files.specs.Puts.{next_put, put_done, taking, take_read, take_written, added_index, with_index, add_read, fresh_index, newing, new_read, new_written, followed, link_read, linked_index};
+ghost use Rattle.local_files.specs.Puts.{next_put, put_done, take_read, take_written, added_index, with_index, add_read, fresh_index, new_read, new_written, followed, link_read, linked_index};
 
-use crate::{Files, Phase};
+use crate::{Files, Phase, Purpose};
 use byteorder::{ByteOrder, LittleEndian};
 use lfs_format::{Index, NULL, read_index, write_index};
 
 impl Files {
-    // Goes on to the first free data block, if there is such a block.
-    pub(crate) fn take(&mut self)
-        ensures new { self.new ≡ taking self.old }
-    {
-        if self.header.free_data < self.blocks {
-            self.phase = Phase::TakeRead(self.header.free_data);
-        } else {
-            self.answer_with(-1);
-        }
-    }
-
     // The free data block is read: it gets the bytes.
     pub(crate) fn take_read(&mut self, b: u32, read: &[u8; 512])
         ensures new { self.new ≡ take_read b (word_of read.now) self.old }
@@ -31,7 +20,7 @@ impl Files {
         self.header.free_data = LittleEndian::read_u32(&read[..4]);
         self.block = [0; 512];
         self.buffer.patch(self.done, many, 0, &mut self.block);
-        self.phase = Phase::TakeWrite(b);
+        self.phase = Phase::Wants(Purpose::TakeWrite { block: b });
     }
 
     // It is written: an index block gets its number.
@@ -39,9 +28,12 @@ impl Files {
         ensures new { self.new ≡ take_written b self.old }
     {
         if self.at_byte() % 8192 == 0 {
-            self.new_index(b, self.header.free_index);
+            self.go_on(Purpose::NewRead {
+                block: b,
+                index: self.header.free_index,
+            });
         } else {
-            self.phase = Phase::AddRead(b);
+            self.phase = Phase::Wants(Purpose::AddRead { block: b });
         }
     }
 
@@ -54,7 +46,7 @@ impl Files {
         let k = self.at as usize % 7;
         self.block = *read;
         write_index(&index, &mut self.block, k);
-        self.phase = Phase::AddWrite(b);
+        self.phase = Phase::Wants(Purpose::AddWrite { block: b });
     }
 
     // The last index block with the number.
@@ -72,17 +64,6 @@ impl Files {
     {
         self.index = self.added_index(b);
         self.piece_written();
-    }
-
-    // Goes on to the first free index block, if there is such a block.
-    fn new_index(&mut self, b: u32, i: u32)
-        ensures new { self.new ≡ newing b i self.old }
-    {
-        if 6 + i / 7 < self.blocks {
-            self.phase = Phase::NewRead(b, i);
-        } else {
-            self.answer_with(-1);
-        }
     }
 
     // An index block of one data block.
@@ -107,7 +88,7 @@ impl Files {
         self.block = *read;
         let fresh = self.fresh_index(b);
         write_index(&fresh, &mut self.block, i as usize % 7);
-        self.phase = Phase::NewWrite(b, i);
+        self.phase = Phase::Wants(Purpose::NewWrite { block: b, index: i });
     }
 
     // It is written: it is the file's first, or the last one names it.
@@ -118,7 +99,7 @@ impl Files {
             self.entry.first = i;
             self.follow(b, i);
         } else {
-            self.phase = Phase::LinkRead(b, i);
+            self.phase = Phase::Wants(Purpose::LinkRead { block: b, index: i });
         }
     }
 
@@ -134,7 +115,7 @@ impl Files {
         };
         self.block = *read;
         write_index(&last, &mut self.block, k);
-        self.phase = Phase::LinkWrite(b, i);
+        self.phase = Phase::Wants(Purpose::LinkWrite { block: b, index: i });
     }
 
     // The new index block is the last one of the file.

@@ -64,6 +64,7 @@ mod laws;
 mod looking;
 mod names;
 mod opening;
+mod purposes;
 mod reading;
 mod search;
 mod table;
@@ -127,6 +128,47 @@ pub enum BlockWork {
     Write(u32),
 }
 
+/// What a block is wanted for.
+#[derive(Clone, Copy)]
+pub enum Purpose {
+    /// A name is looked for in this directory block.
+    Search { block: u32 },
+    /// This index block of the file that is read leads on, and `rest` more come after it up to that of the position.
+    Walk { rest: u32, index: u32 },
+    /// This data block of the file is read.
+    Fetch { block: u32 },
+    /// The first directory block has the counts.
+    Counts,
+    /// This index block of the file that is written leads on, and `rest` more come after it up to that of the position.
+    Reach { rest: u32, index: u32 },
+    /// Bytes go into this data block of the file.
+    PatchRead { block: u32 },
+    PatchWrite { block: u32 },
+    /// The file gets this free data block.
+    TakeRead { block: u32 },
+    TakeWrite { block: u32 },
+    /// The last index block gets the number of the data block.
+    AddRead { block: u32 },
+    AddWrite { block: u32 },
+    /// This free index block gets the number of the data block.
+    NewRead { block: u32, index: u32 },
+    NewWrite { block: u32, index: u32 },
+    /// The last index block is followed by this new one.
+    LinkRead { block: u32, index: u32 },
+    LinkWrite { block: u32, index: u32 },
+    /// The index block of a file that is cut is freed.
+    CutRead,
+    CutWrite,
+    /// This data block of the file is freed.
+    FreeWrite { block: u32 },
+    /// The directory block of the entry gets it.
+    EntryRead,
+    EntryWrite,
+    /// The first directory block gets the counts.
+    HeaderRead,
+    HeaderWrite,
+}
+
 /// What the engine waits for.
 #[derive(Clone, Copy)]
 pub enum Phase {
@@ -134,42 +176,8 @@ pub enum Phase {
     Idle,
     /// That its answer is taken.
     Done(i32),
-    /// A directory block, in which a name is looked for.
-    Search(u32),
-    /// An index block of the file that is read, after which so many more come to that of the position.
-    Walk(u32, u32),
-    /// A data block of the file that is read.
-    Fetch(u32),
-    /// The first directory block, which has the counts.
-    Counts,
-    /// An index block of the file that is written, after which so many more come to that of the position.
-    Reach(u32, u32),
-    /// A data block of the file, which is then written with bytes put into it.
-    PatchRead(u32),
-    PatchWrite(u32),
-    /// A free data block, which is then written.
-    TakeRead(u32),
-    TakeWrite(u32),
-    /// The last index block, which then gets the number of a data block.
-    AddRead(u32),
-    AddWrite(u32),
-    /// A free index block, which then gets the number of a data block.
-    NewRead(u32, u32),
-    NewWrite(u32, u32),
-    /// The last index block, which is then followed by a new one.
-    LinkRead(u32, u32),
-    LinkWrite(u32, u32),
-    /// An index block of a file that is cut, which is then freed.
-    CutRead,
-    CutWrite,
-    /// That a data block of the file is freed.
-    FreeWrite(u32),
-    /// The directory block of the entry, which then gets it.
-    EntryRead,
-    EntryWrite,
-    /// The first directory block, which then gets the counts.
-    HeaderRead,
-    HeaderWrite,
+    /// A block.
+    Wants(Purpose),
 }
 
 /// The engine.

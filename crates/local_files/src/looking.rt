@@ -6,13 +6,13 @@ ghost use Rattle.local_files.specs.Standing.{Stands, GoesTo, call_bytes};
 ghost use Rattle.local_files.specs.Bounds.{left};
 
 use crate::search::find;
-use crate::{Files, Phase};
+use crate::{Files, Phase, Purpose};
 use lfs_format::read_dir;
 
 impl Files {
     // A directory block is read.
     pub(crate) fn search(&mut self, d: u32, read: &[u8; 512])
-        requires phase { self.old.phase ≡ Phase.Search d }
+        requires phase { self.old.phase ≡ Phase.Wants (Purpose.Search d) }
         ensures goes { (base disk : List ℕ) → Stands self.old base disk → read.now ≡ block_in disk d
             → GoesTo self.new.phase self.old.call (call_bytes self.old) self.old self.new base disk }
         ensures less { (base disk : List ℕ) → Stands self.old base disk → read.now ≡ block_in disk d → left self.new base < left self.old base }
@@ -27,7 +27,7 @@ impl Files {
     // Directory block `d` is read: the name is in it, or the search goes on.
     fn searched(&mut self, d: u32, read: &[u8; 512])
         requires below { d < 6 }
-        requires phase { self.old.phase ≡ Phase.Search d }
+        requires phase { self.old.phase ≡ Phase.Wants (Purpose.Search d) }
         ensures goes { (base disk : List ℕ) → Stands self.old base disk → read.now ≡ block_in disk d
             → GoesTo self.new.phase self.old.call (call_bytes self.old) self.old self.new base disk }
         ensures less { (base disk : List ℕ) → Stands self.old base disk → read.now ≡ block_in disk d → left self.new base < left self.old base }

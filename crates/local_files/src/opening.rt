@@ -10,7 +10,7 @@ ghost use Rattle.local_files.specs.Opens.{closing, seeking, sizing, beginning, d
 
 use crate::search::first_unused;
 use crate::table::count;
-use crate::{FileCall, FileDev, Files, OpenFile, Phase};
+use crate::{FileCall, FileDev, Files, OpenFile, Phase, Purpose};
 use lfs_check::Header;
 use lfs_format::{Dir, Entry, NULL};
 use xinu_base::OpenMode;
@@ -25,7 +25,7 @@ impl Files {
         } else {
             self.call = call;
             self.slot = 78;
-            self.phase = Phase::Search(0);
+            self.phase = Phase::Wants(Purpose::Search { block: 0 });
         }
     }
 
@@ -38,7 +38,7 @@ impl Files {
         } else {
             self.call = call;
             self.slot = 78;
-            self.phase = Phase::Search(0);
+            self.phase = Phase::Wants(Purpose::Search { block: 0 });
         }
     }
 
@@ -142,7 +142,7 @@ impl Files {
     {
         self.note_unused(d, dir);
         if d < 5 {
-            self.phase = Phase::Search(d + 1);
+            self.phase = Phase::Wants(Purpose::Search { block: d + 1 });
         } else {
             self.not_found();
         }
@@ -176,7 +176,7 @@ impl Files {
                         name,
                     };
                     self.header.files = self.header.files.wrapping_add(1);
-                    self.phase = Phase::EntryRead;
+                    self.phase = Phase::Wants(Purpose::EntryRead);
                 }
             }
             _ => self.answer_with(-1),

@@ -3,10 +3,10 @@
 ghost use Rattle.std.specs.Prelude.{◌≡◌, ◌<◌, ◌≤◌, ◌+◌, ◌-◌, ◌*◌, ◌/◌, ◌%◌, ◌++◌, ℕ, List, true, Some, None, negsuc, pos, length, take, drop, min, slice_index};
 ghost use Rattle.lfs_format.specs.Indexes.{index_at};
 ghost use Rattle.local_files.specs.Steps.{answered, device_at, piece, at_byte, named_device};
-ghost use Rattle.local_files.specs.Takes.{reading_at, reading, walking, fetching, walked, fetched, next_fetch, finished_read, finished_at, given_all, read_on, with_taken};
+ghost use Rattle.local_files.specs.Takes.{reading_at, reading, walked, fetched, next_fetch, finished_read, finished_at, given_all, read_on, with_taken};
 
 use crate::table::count;
-use crate::{FileCall, FileDev, Files, OpenFile, Phase};
+use crate::{FileCall, FileDev, Files, OpenFile, Phase, Purpose};
 use lfs_format::read_index;
 
 impl Files {
@@ -34,29 +34,10 @@ impl Files {
             self.position = f.position;
             self.total = n.min(f.entry.size - f.position);
             self.done = 0;
-            self.walk(f.position / 8192, f.entry.first);
-        }
-    }
-
-    // Goes on to an index block, if there is such a block.
-    fn walk(&mut self, rest: u32, at: u32)
-        ensures new { self.new ≡ walking rest at self.old }
-    {
-        if 6 + at / 7 < self.blocks {
-            self.phase = Phase::Walk(rest, at);
-        } else {
-            self.answer_with(-1);
-        }
-    }
-
-    // Goes on to a data block, if there is such a block.
-    fn fetch(&mut self, b: u32)
-        ensures new { self.new ≡ fetching b self.old }
-    {
-        if b < self.blocks {
-            self.phase = Phase::Fetch(b);
-        } else {
-            self.answer_with(-1);
+            self.go_on(Purpose::Walk {
+                rest: f.position / 8192,
+                index: f.entry.first,
+            });
         }
     }
 
@@ -66,9 +47,13 @@ impl Files {
     {
         self.index = read_index(read, at as usize % 7);
         if rest == 0 {
-            self.fetch(self.index.blocks[self.at_byte() as usize / 512 % 16]);
+            let block = self.index.blocks[self.at_byte() as usize / 512 % 16];
+            self.go_on(Purpose::Fetch { block });
         } else {
-            self.walk(rest - 1, self.index.next);
+            self.go_on(Purpose::Walk {
+                rest: rest - 1,
+                index: self.index.next,
+            });
         }
     }
 
@@ -102,9 +87,13 @@ impl Files {
     {
         let q = self.at_byte();
         if q % 8192 == 0 {
-            self.walk(0, self.index.next);
+            self.go_on(Purpose::Walk {
+                rest: 0,
+                index: self.index.next,
+            });
         } else {
-            self.fetch(self.index.blocks[q as usize / 512 % 16]);
+            let block = self.index.blocks[q as usize / 512 % 16];
+            self.go_on(Purpose::Fetch { block });
         }
     }
 

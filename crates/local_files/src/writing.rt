@@ -5,9 +5,9 @@ ghost use Rattle.lfs_format.specs.Indexes.{index_at};
 ghost use Rattle.lfs_format.specs.Directory.{dir_of};
 ghost use Rattle.local_files.specs.Steps.{device_at, at_byte};
 ghost use Rattle.local_files.specs.Cuts.{held_file};
-ghost use Rattle.local_files.specs.Puts.{writing_at, writing, counts_read, next_put, end_put, at_end, target, appending, in_place, reach_to, reaching, reached, patching, patch_read, put_done};
+ghost use Rattle.local_files.specs.Puts.{writing_at, writing, counts_read, next_put, end_put, at_end, target, appending, in_place, reach_to, reached, patch_read, put_done};
 
-use crate::{FileCall, FileDev, Files, OpenFile, Phase};
+use crate::{FileCall, FileDev, Files, OpenFile, Phase, Purpose};
 use lfs_check::Header;
 use lfs_format::{NULL, read_dir, read_index};
 
@@ -46,7 +46,7 @@ impl Files {
         self.call = call;
         self.slot = f.slot;
         self.entry = f.entry;
-        self.phase = Phase::Counts;
+        self.phase = Phase::Wants(Purpose::Counts);
     }
 
     // The counts are read.
@@ -86,7 +86,7 @@ impl Files {
         if self.done == 0 {
             self.answer_with(-1);
         } else {
-            self.phase = Phase::EntryRead;
+            self.phase = Phase::Wants(Purpose::EntryRead);
         }
     }
 
@@ -117,7 +117,9 @@ impl Files {
         if self.header.free_data == NULL || q % 8192 == 0 && self.header.free_index == NULL {
             self.end_put();
         } else if q == 0 || self.reached == self.target() + 1 {
-            self.take();
+            self.go_on(Purpose::TakeRead {
+                block: self.header.free_data,
+            });
         } else {
             self.reach_to();
         }
@@ -128,7 +130,8 @@ impl Files {
         ensures new { self.new ≡ in_place self.old }
     {
         if self.reached == self.target() + 1 {
-            self.patch(self.index.blocks[self.at_byte() as usize / 512 % 16]);
+            let block = self.index.blocks[self.at_byte() as usize / 512 % 16];
+            self.go_on(Purpose::PatchRead { block });
         } else {
             self.reach_to();
         }
@@ -139,19 +142,15 @@ impl Files {
         ensures new { self.new ≡ reach_to self.old }
     {
         if self.reached == 0 {
-            self.reach(self.target(), self.entry.first);
+            self.go_on(Purpose::Reach {
+                rest: self.target(),
+                index: self.entry.first,
+            });
         } else {
-            self.reach(0, self.index.next);
-        }
-    }
-
-    fn reach(&mut self, rest: u32, at: u32)
-        ensures new { self.new ≡ reaching rest at self.old }
-    {
-        if 6 + at / 7 < self.blocks {
-            self.phase = Phase::Reach(rest, at);
-        } else {
-            self.answer_with(-1);
+            self.go_on(Purpose::Reach {
+                rest: 0,
+                index: self.index.next,
+            });
         }
     }
 
@@ -165,18 +164,10 @@ impl Files {
             self.reached = self.target() + 1;
             self.next_put();
         } else {
-            self.reach(rest - 1, self.index.next);
-        }
-    }
-
-    // Goes on to a data block of the file, if there is such a block.
-    fn patch(&mut self, b: u32)
-        ensures new { self.new ≡ patching b self.old }
-    {
-        if b < self.blocks {
-            self.phase = Phase::PatchRead(b);
-        } else {
-            self.answer_with(-1);
+            self.go_on(Purpose::Reach {
+                rest: rest - 1,
+                index: self.index.next,
+            });
         }
     }
 
@@ -189,7 +180,7 @@ impl Files {
         let (from, many) = (self.at_byte() % 512, self.piece());
         self.block = *read;
         self.buffer.patch(self.done, many, from, &mut self.block);
-        self.phase = Phase::PatchWrite(b);
+        self.phase = Phase::Wants(Purpose::PatchWrite { block: b });
     }
 
     // The bytes are on the disk.

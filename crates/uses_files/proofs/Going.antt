@@ -9,7 +9,7 @@ use Rattle.local_files.specs.declared.BlockWork.{BlockWork}
 use Rattle.local_files.specs.declared.FileCall.{FileCall}
 use Rattle.local_files.specs.declared.Files.{Files}
 use Rattle.local_files.specs.declared.Phase.{Phase}
-use Rattle.local_files.specs.declared.Phase.TheVariants.{Idle, Done, Search, Walk, Fetch, Counts, Reach, PatchRead, PatchWrite, TakeRead, TakeWrite, AddRead, AddWrite, NewRead, NewWrite, LinkRead, LinkWrite, CutRead, CutWrite, FreeWrite, EntryRead, EntryWrite, HeaderRead, HeaderWrite}
+use Rattle.local_files.specs.declared.Phase.TheVariants.{Idle, Done, Wants}
 
 -- a call that waits for a block is as it began
 pub waits : (p : Phase) (call : FileCall) (bytes : List ℕ) (old new : Files) (base disk : List ℕ) → IsSome (wanted_in p new)
@@ -17,28 +17,7 @@ pub waits : (p : Phase) (call : FileCall) (bytes : List ℕ) (old new : Files) (
     → Stands new base disk × (new.call ≡ call) × (call_bytes new ≡ bytes) × (system new base ≡ system old base)
 waits Idle call bytes old new base disk some g = absurd (false≢true some)
 waits (Done r) call bytes old new base disk some g = absurd (false≢true some)
-waits (Search x0) call bytes old new base disk some g = (g.0, g.1, g.2, g.3)
-waits (Walk x0 x1) call bytes old new base disk some g = (g.0, g.1, g.2, g.3)
-waits (Fetch x0) call bytes old new base disk some g = (g.0, g.1, g.2, g.3)
-waits Counts call bytes old new base disk some g = (g.0, g.1, g.2, g.3)
-waits (Reach x0 x1) call bytes old new base disk some g = (g.0, g.1, g.2, g.3)
-waits (PatchRead x0) call bytes old new base disk some g = (g.0, g.1, g.2, g.3)
-waits (PatchWrite x0) call bytes old new base disk some g = (g.0, g.1, g.2, g.3)
-waits (TakeRead x0) call bytes old new base disk some g = (g.0, g.1, g.2, g.3)
-waits (TakeWrite x0) call bytes old new base disk some g = (g.0, g.1, g.2, g.3)
-waits (AddRead x0) call bytes old new base disk some g = (g.0, g.1, g.2, g.3)
-waits (AddWrite x0) call bytes old new base disk some g = (g.0, g.1, g.2, g.3)
-waits (NewRead x0 x1) call bytes old new base disk some g = (g.0, g.1, g.2, g.3)
-waits (NewWrite x0 x1) call bytes old new base disk some g = (g.0, g.1, g.2, g.3)
-waits (LinkRead x0 x1) call bytes old new base disk some g = (g.0, g.1, g.2, g.3)
-waits (LinkWrite x0 x1) call bytes old new base disk some g = (g.0, g.1, g.2, g.3)
-waits CutRead call bytes old new base disk some g = (g.0, g.1, g.2, g.3)
-waits CutWrite call bytes old new base disk some g = (g.0, g.1, g.2, g.3)
-waits (FreeWrite x0) call bytes old new base disk some g = (g.0, g.1, g.2, g.3)
-waits EntryRead call bytes old new base disk some g = (g.0, g.1, g.2, g.3)
-waits EntryWrite call bytes old new base disk some g = (g.0, g.1, g.2, g.3)
-waits HeaderRead call bytes old new base disk some g = (g.0, g.1, g.2, g.3)
-waits HeaderWrite call bytes old new base disk some g = (g.0, g.1, g.2, g.3)
+waits (Wants purpose) call bytes old new base disk some g = (g.0, g.1, g.2, g.3)
 
 -- a block more is served
 pub goes_on : (call : FileCall) (bytes : List ℕ) (first old new : Files) (base disk disk' : List ℕ) → IsSome (wanted old)
@@ -62,46 +41,14 @@ pub replied : (p : Phase) (call : FileCall) (bytes : List ℕ) (old new : Files)
     → GoesTo p call bytes old new base disk → HasReply p call bytes old new base disk
 replied Idle call bytes old new base disk none g = absurd g
 replied (Done r) call bytes old new base disk none g =
-    let s = g.1 in
     record {
       reply = r;
       known = refl;
       effect = g.0;
-      stands = record {
-        clean = s.clean;
-        blocks = s.blocks;
-        whole = s.whole;
-        six = s.six;
-        outgoing = s.outgoing;
-        buffer = s.buffer;
-        device = s.device;
-        apart = s.apart;
-        hand = refl;
-      };
+      stands = record { standing = g.1.standing; hand = refl };
       idle = refl;
     }
-replied (Search x0) call bytes old new base disk none g = absurd (cc (none))
-replied (Walk x0 x1) call bytes old new base disk none g = absurd (cc (none))
-replied (Fetch x0) call bytes old new base disk none g = absurd (cc (none))
-replied Counts call bytes old new base disk none g = absurd (cc (none))
-replied (Reach x0 x1) call bytes old new base disk none g = absurd (cc (none))
-replied (PatchRead x0) call bytes old new base disk none g = absurd (cc (none))
-replied (PatchWrite x0) call bytes old new base disk none g = absurd (cc (none))
-replied (TakeRead x0) call bytes old new base disk none g = absurd (cc (none))
-replied (TakeWrite x0) call bytes old new base disk none g = absurd (cc (none))
-replied (AddRead x0) call bytes old new base disk none g = absurd (cc (none))
-replied (AddWrite x0) call bytes old new base disk none g = absurd (cc (none))
-replied (NewRead x0 x1) call bytes old new base disk none g = absurd (cc (none))
-replied (NewWrite x0 x1) call bytes old new base disk none g = absurd (cc (none))
-replied (LinkRead x0 x1) call bytes old new base disk none g = absurd (cc (none))
-replied (LinkWrite x0 x1) call bytes old new base disk none g = absurd (cc (none))
-replied CutRead call bytes old new base disk none g = absurd (cc (none))
-replied CutWrite call bytes old new base disk none g = absurd (cc (none))
-replied (FreeWrite x0) call bytes old new base disk none g = absurd (cc (none))
-replied EntryRead call bytes old new base disk none g = absurd (cc (none))
-replied EntryWrite call bytes old new base disk none g = absurd (cc (none))
-replied HeaderRead call bytes old new base disk none g = absurd (cc (none))
-replied HeaderWrite call bytes old new base disk none g = absurd (cc (none))
+replied (Wants purpose) call bytes old new base disk none g = absurd (cc (none))
 
 -- nothing is wanted
 pub nothing : (o : Option BlockWork) → is_some o ≡ false → o ≡ None
