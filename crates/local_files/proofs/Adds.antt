@@ -90,24 +90,24 @@ appended_is xs new = ap (λ x. xs ++ x) (sym (append-nil new))
 
 -- the file ends where the call is
 pub record IsGrowing (e : Files) (base disk : List ℕ) (p : Places) : Type 0 where
-  pub size : e.entry.size ≡ e.position + e.done
+  pub size : e.entry.size ≡ e.counters.position + e.counters.done
   pub whole : e.entry.size % 512 ≡ 0
   pub at : at_byte e ≡ e.entry.size
   pub read : IsReadBy e.blocks disk e.entry (numbers_at p.chains e.slot) (numbers_at p.datas e.slot)
-  pub long : length (overwritten e.position (take e.done (put_bytes e)) (entry_bytes base (entry_at base e.slot))) ≡ e.entry.size
+  pub long : length (overwritten e.counters.position (take e.counters.done (put_bytes e)) (entry_bytes base (entry_at base e.slot))) ≡ e.entry.size
   pub grown : (put_done e).entry.size ≡ e.entry.size + piece e
-  pub more : overwritten e.position (take e.done (put_bytes e)) (entry_bytes base (entry_at base e.slot)) ++ piece_bytes e
-      ≡ overwritten e.position (take (e.done + piece e) (put_bytes e)) (entry_bytes base (entry_at base e.slot))
+  pub more : overwritten e.counters.position (take e.counters.done (put_bytes e)) (entry_bytes base (entry_at base e.slot)) ++ piece_bytes e
+      ≡ overwritten e.counters.position (take (e.counters.done + piece e) (put_bytes e)) (entry_bytes base (entry_at base e.slot))
 
 -- a call that is at the end of its file
-pub growing : (e : Files) (base disk : List ℕ) (p : Places) → IsStanding e base disk → (u : IsPutting e base disk p) → e.done < e.total
+pub growing : (e : Files) (base disk : List ℕ) (p : Places) → IsStanding e base disk → (u : IsPutting e base disk p) → e.counters.done < e.counters.total
     → at_end e ≡ true → IsGrowing e base disk p
 growing e base disk p s u left ends =
     let a = ends_is e ends in let q = where_put e base disk p s u in
     let old = entry_bytes base (entry_at base e.slot) in
-    let bytes = overwritten e.position (take e.done (put_bytes e)) old in
+    let bytes = overwritten e.counters.position (take e.counters.done (put_bytes e)) old in
     let f = piece_is e base disk p s u left in
-    let size : e.entry.size ≡ e.position + e.done = sym a.0 ∙ q in
+    let size : e.entry.size ≡ e.counters.position + e.counters.done = sym a.0 ∙ q in
     let long = middle_sized e.blocks base disk e.header e.slot e.entry p bytes u.middle in
     let g = f.size in
     record {
@@ -119,7 +119,7 @@ growing e base disk p s u left ends =
       long = long;
       grown = omega (arith, g, size);
       more = appended_is bytes (piece_bytes e) ∙ ap (λ k. overwritten k (piece_bytes e) bytes) (long ∙ size)
-          ∙ piece_more e (e.position + e.done) old f (done_long e base disk p s u) refl (low_old e base disk p s u);
+          ∙ piece_more e (e.counters.position + e.counters.done) old f (done_long e base disk p s u) refl (low_old e base disk p s u);
     }
 
 -- the slot has its lists
@@ -142,7 +142,7 @@ add_written_goes e e' b base disk phase new s =
     let g = growing e base disk p st u k.left k.ends in
     let f = piece_is e base disk p st u k.left in
     let chain = numbers_at p.chains e.slot in let blocks = numbers_at p.datas e.slot in
-    let bytes = overwritten e.position (take e.done (put_bytes e)) (entry_bytes base (entry_at base e.slot)) in
+    let bytes = overwritten e.counters.position (take e.counters.done (put_bytes e)) (entry_bytes base (entry_at base e.slot)) in
     let made = block_put disk (6 + e.at / 7) e.block in
     let room = h.room in let size = g.size in let whole = g.whole in let at = g.at in let cl = g.read.chain_long in
     let bl = g.read.blocks_long in

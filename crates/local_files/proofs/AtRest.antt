@@ -85,7 +85,7 @@ putting_holds : (e : Files) (base disk : List ℕ) (rests : List ℕ → Bool) (
     → IsPutting e base disk p → Holds disk (stored_files base) rests
 putting_holds e base disk rests p s a u =
     middle_holds e.blocks base disk e.header e.slot e.entry p
-    (overwritten e.position (take e.done (put_bytes e)) (entry_bytes base (entry_at base e.slot))) rests u.middle
+    (overwritten e.counters.position (take e.counters.done (put_bytes e)) (entry_bytes base (entry_at base e.slot))) rests u.middle
     (slot_busy e base disk rests (device_of e.call) u.file s a u.open_is u.slot).1
 
 -- a file that is cut
@@ -166,8 +166,8 @@ held_always e base disk rests s a = by_phase e.phase refl s.hand
     by_phase Idle is h = still h
     by_phase (Done r) is h = still h
     by_phase (Wants (Search d)) is h = still h.same
-    by_phase (Wants (Walk rest at)) is h = still h.reading.same
-    by_phase (Wants (Fetch b)) is h = still h.reading.same
+    by_phase (Wants (Walk rest at)) is h = still h.same
+    by_phase (Wants (Fetch b)) is h = still h.same
     by_phase (Wants Counts) is h = still h.same
     by_phase (Wants (Reach rest at)) is h = puts h.ready.places h.ready.putting
     by_phase (Wants (PatchRead b)) is h = puts h.ready.places h.ready.putting

@@ -100,7 +100,7 @@ reads_less e call d n m disk s most = by_device (device_at e d) refl
     by_device None at = omega arith
     by_device (Some f) at =
         let bound = most f at in
-        let x : Files = record e { call = call; position = f.position; total = min n (f.entry.size - f.position); done = 0 } in
+        let x : Files = record e { call = call; counters = record e.counters { position = f.position; total = min n (f.entry.size - f.position); done = 0 } } in
         let last = if nat_le f.entry.size f.position then answered (negsuc 1) e else going_on (Walk (f.position / 8192) f.entry.first) x in
         let mid = if n == 0 then answered (pos 0) e else last in
         below_if (not f.read) (answered (negsuc 0) e) mid disk (suc m) (λ _. omega arith)
@@ -141,12 +141,10 @@ writes_less e call d m bytes disk s other most = by_device (device_at e d) refl
         let bound = most f at in let within = (device_some e disk disk d f s at).position in
         let x : Files = record (held_file f call e) {
           buffer = put_at 0 bytes e.buffer;
-          position = f.position;
-          total = length bytes;
-          done = 0;
+          counters = record e.counters { position = f.position; total = length bytes; done = 0 };
           reached = 0;
         } in
-        let Q : Bool → Type 0 = λ v. (if v then 1 + cut_left (entry_at disk x.slot).size 0 0 else x.position / 8192 + 8 + put_left x) < suc m in
+        let Q : Bool → Type 0 = λ v. (if v then 1 + cut_left (entry_at disk x.slot).size 0 0 else x.counters.position / 8192 + 8 + put_left x) < suc m in
         below_if (not f.write || nat_lt 1048576 (length bytes)) (answered (negsuc 0) e)
         (if length bytes == 0 then answered (pos 0) e else x) disk (suc m) (λ _. omega arith)
         (λ _. below_if (length bytes == 0) (answered (pos 0) e) x disk (suc m) (λ _. omega arith)

@@ -133,8 +133,8 @@ passed_falls e e' d header slot base disk phase new s =
 -- Reading.
 
 -- where a read is in its file
-where_read : (e : Files) (base disk : List ℕ) → Stands e base disk → IsReading e base disk
-    → (at_byte e ≡ e.position + e.done) × ((e.total ≤ 1048576) × (e.position + e.total < 4294967296))
+where_read : (e : Files) (base disk : List ℕ) → Stands e base disk → IsReading e base
+    → (at_byte e ≡ e.counters.position + e.counters.done) × ((e.counters.total ≤ 1048576) × (e.counters.position + e.counters.total < 4294967296))
 where_read e base disk s r =
     let o = open_of base (device_at e (device_of e.call)) r.file r.open_is (s.device (device_of e.call)) in
     let small : r.file.entry.size ≤ 33557504 = (let P : Entry → Type 0 = λ x. x.size ≤ 33557504 in
@@ -183,13 +183,13 @@ counts_read_falls e e' base disk read phase new s =
 
     Q : Bool → Type 0
     Q v = left (if v then cutting e.entry x else next_put x) base
-        < (if v then 1 + cut_left (entry_at base e.slot).size 0 0 else e.position / 8192 + 8 + put_left e)
+        < (if v then 1 + cut_left (entry_at base e.slot).size 0 0 else e.counters.position / 8192 + 8 + put_left e)
 
-    puts : IsBegun e h.file → left (next_put x) base < e.position / 8192 + 8 + put_left e
+    puts : IsBegun e h.file → left (next_put x) base < e.counters.position / 8192 + 8 + put_left e
     puts b =
         let none = b.none in
-        let m = e.position / 8192 + 8 + put_left e in
-        let t : target x ≤ e.position / 8192 = target_most x e.position (omega (arith, none)) in
+        let m = e.counters.position / 8192 + 8 + put_left e in
+        let t : target x ≤ e.counters.position / 8192 = target_most x e.counters.position (omega (arith, none)) in
         next_put_less x base m (omega arith) (λ _. omega arith)
         (λ _ _. reach_to_less x base m (λ _. omega (arith, t)) (λ n. absurd (n b.not_reached)))
 

@@ -129,17 +129,17 @@ counts_read_goes e e' base disk read phase new s honest =
     p : Places
     p = places_of (disk_geometry n) (fields_of (disk_geometry n) base)
 
-    middle : e.done ≡ 0 → IsMiddle e.blocks base base x.header e.slot e.entry p
-        (overwritten e.position (take e.done (put_bytes e)) (entry_bytes base (entry_at base e.slot)))
+    middle : e.counters.done ≡ 0 → IsMiddle e.blocks base base x.header e.slot e.entry p
+        (overwritten e.counters.position (take e.counters.done (put_bytes e)) (entry_bytes base (entry_at base e.slot)))
     middle none =
         let old = entry_bytes base (entry_at base e.slot) in
-        let A : ℕ → Type 0 = λ k. IsMiddle k base base x.header e.slot e.entry p (overwritten e.position (take e.done (put_bytes e)) old) in
-        let B : Header → Type 0 = λ k. IsMiddle n base base k e.slot e.entry p (overwritten e.position (take e.done (put_bytes e)) old) in
+        let A : ℕ → Type 0 = λ k. IsMiddle k base base x.header e.slot e.entry p (overwritten e.counters.position (take e.counters.done (put_bytes e)) old) in
+        let B : Header → Type 0 = λ k. IsMiddle n base base k e.slot e.entry p (overwritten e.counters.position (take e.counters.done (put_bytes e)) old) in
         let C : Entry → Type 0 = λ k. IsMiddle n base base (header_on base) e.slot k p
-        (overwritten e.position (take e.done (put_bytes e)) old) in
+        (overwritten e.counters.position (take e.counters.done (put_bytes e)) old) in
         let E : List ℕ → Type 0 = λ k. IsMiddle n base base (header_on base) e.slot (entry_at base e.slot) p k in
         subst A same (subst B (sym header)
-        (subst C entry (subst E (sym (none_put e.position e.done (put_bytes e) old none))
+        (subst C entry (subst E (sym (none_put e.counters.position e.counters.done (put_bytes e) old none))
         (middle_begins base e.slot s.clean slot (ap entry_is_used entry ∙ used)))))
 
     ready : IsBegun e h.file → IsReady x base base

@@ -149,27 +149,27 @@ written_goes e d base disk made is s w m =
     let small : f.entry.size ≤ 33557504 = (let P : Entry → Type 0 = λ x. x.size ≤ 33557504 in
     subst P o.entry (entry_small base s.clean f.slot o.slot (ap entry_is_used o.entry ∙ o.used))) in
     let few = w.few in let most = w.most in let within = o.position in let where_is = w.position in let long = s.buffer in
-    let q : at_byte e ≡ f.position + e.done = omega (arith, small, few, most, within, where_is) in
-    let puts : length (put_bytes e) ≡ e.total = (let t = length-take e.total e.buffer in omega (arith, t, most, long)) in
+    let q : at_byte e ≡ f.position + e.counters.done = omega (arith, small, few, most, within, where_is) in
+    let puts : length (put_bytes e) ≡ e.counters.total = (let t = length-take e.counters.total e.buffer in omega (arith, t, most, long)) in
     let files : stored_files made ≡ with_contents (bare_name (entry_at base e.slot).name)
-    (overwritten f.position (take e.done (put_bytes e)) (entry_bytes base (entry_at base e.slot))) (stored_files base) =
+    (overwritten f.position (take e.counters.done (put_bytes e)) (entry_bytes base (entry_at base e.slot))) (stored_files base) =
     m.files ∙ ap (λ k. files_after k e base) is
     ∙ ap (λ p. with_contents (bare_name (entry_at base e.slot).name)
-    (overwritten p (take e.done (put_bytes e)) (entry_bytes base (entry_at base e.slot))) (stored_files base)) w.position in
-    let effect = write_effect base made (put_bytes e) d e.slot e.done (seen f)
+    (overwritten p (take e.counters.done (put_bytes e)) (entry_bytes base (entry_at base e.slot))) (stored_files base)) w.position in
+    let effect = write_effect base made (put_bytes e) d e.slot e.counters.done (seen f)
     (system e base) s.clean h.slot h.used h.at w.writes refl h.named w.fits w.some (omega (arith, few, puts)) files in
-    let g : Files = with_device d (Some (let g : OpenFile = record f { entry = e.entry; position = f.position + e.done } in g)) e in
-    let new_is : ended (Write d) e ≡ answered (pos e.done) g =
+    let g : Files = with_device d (Some (let g : OpenFile = record f { entry = e.entry; position = f.position + e.counters.done } in g)) e in
+    let new_is : ended (Write d) e ≡ answered (pos e.counters.done) g =
     ap (λ r. answered r (kept_at (device_at e d) d (if is_truncate e.call then 0 else at_byte e) e)) (ap (λ k.
-    if is_write k then counted e.done else pos 0) is ∙ counted_small e.done (omega (arith, few, most)))
-    ∙ ap (answered (pos e.done)) (ap (λ k. kept_at (device_at e d) d (if is_truncate k then 0 else at_byte e) e) is
-    ∙ ap (λ p. kept_at (device_at e d) d p e) q ∙ kept_is e d (f.position + e.done) f at) in
+    if is_write k then counted e.counters.done else pos 0) is ∙ counted_small e.counters.done (omega (arith, few, most)))
+    ∙ ap (answered (pos e.counters.done)) (ap (λ k. kept_at (device_at e d) d (if is_truncate k then 0 else at_byte e) e) is
+    ∙ ap (λ p. kept_at (device_at e d) d p e) q ∙ kept_is e d (f.position + e.counters.done) f at) in
     let P : Files → Type 0 = λ x. GoesTo x.phase (Write d) (put_bytes e) e x base made in
-    let result : FileSystem → FileEffect = λ y. record { system = y; reply = pos e.done; bytes = [] } in
+    let result : FileSystem → FileEffect = λ y. record { system = y; reply = pos e.counters.done; bytes = [] } in
     subst P (sym new_is) (
       effect ∙ ap result
-          (seen_set e base made d (f.position + e.done) f (pos e.done) (map shown e.devices) refl w.named),
-      kept_stands e base disk made d (f.position + e.done) f (pos e.done) s m at w.slot w.named w.size,
+          (seen_set e base made d (f.position + e.counters.done) f (pos e.counters.done) (map shown e.devices) refl w.named),
+      kept_stands e base disk made d (f.position + e.counters.done) f (pos e.counters.done) s m at w.slot w.named w.size,
     )
 
 -- `putc`
@@ -185,21 +185,21 @@ putc_goes e d b base disk made is s w one m =
     subst P o.entry (entry_small base s.clean f.slot o.slot (ap entry_is_used o.entry ∙ o.used))) in
     let few = w.few in let most = w.most in let within = o.position in let where_is = w.position in let long = s.buffer in
     let some = w.some in
-    let puts : length (put_bytes e) ≡ e.total = (let t = length-take e.total e.buffer in omega (arith, t, most, long)) in
-    let single : e.total ≡ 1 = sym puts ∙ ap length one in
-    let done_is : e.done ≡ 1 = omega (arith, single, few, some) in
+    let puts : length (put_bytes e) ≡ e.counters.total = (let t = length-take e.counters.total e.buffer in omega (arith, t, most, long)) in
+    let single : e.counters.total ≡ 1 = sym puts ∙ ap length one in
+    let done_is : e.counters.done ≡ 1 = omega (arith, single, few, some) in
     let q : at_byte e ≡ f.position + 1 = omega (arith, small, done_is, within, where_is) in
-    let put : take e.done (put_bytes e) ≡ b ∷ [] = ap (λ k. take k (put_bytes e)) done_is ∙ ap (take 1) one in
+    let put : take e.counters.done (put_bytes e) ≡ b ∷ [] = ap (λ k. take k (put_bytes e)) done_is ∙ ap (take 1) one in
     let old = entry_bytes base (entry_at base e.slot) in let name = bare_name (entry_at base e.slot).name in
     let files : stored_files made ≡ with_contents name (overwritten f.position (b ∷ []) old) (stored_files base) =
     m.files ∙ ap (λ k. files_after k e base) is
-    ∙ ap (λ p. with_contents name (overwritten p (take e.done (put_bytes e)) old) (stored_files base)) w.position
+    ∙ ap (λ p. with_contents name (overwritten p (take e.counters.done (put_bytes e)) old) (stored_files base)) w.position
     ∙ ap (λ x. with_contents name (overwritten f.position x old) (stored_files base)) put in
     let fits : fitting (seen f) (b ∷ []) (system e base) ≡ 1 = ap (λ x. fitting (seen f) x (system e base)) (sym one) ∙ w.fits ∙ done_is in
     let effect = putc_effect base made [] d e.slot b (seen f) (system e base) s.clean h.slot h.used h.at w.writes refl h.named fits files in
     let g : Files = with_device d (Some (let g : OpenFile = record f { entry = e.entry; position = f.position + 1 } in g)) e in
     let new_is : ended (Putc d b) e ≡ answered (pos 0) g =
-    ap (λ k. answered (if is_write k then counted e.done else pos 0)
+    ap (λ k. answered (if is_write k then counted e.counters.done else pos 0)
     (kept_at (device_at e d) d (if is_truncate k then 0 else at_byte e) e)) is
     ∙ ap (answered (pos 0)) (ap (λ p. kept_at (device_at e d) d p e) q ∙ kept_is e d (f.position + 1) f at) in
     let P : Files → Type 0 = λ x. GoesTo x.phase (Putc d b) [] e x base made in
@@ -223,7 +223,7 @@ emptied_goes e d base disk made is s w m =
     let effect = truncate_effect base made [] d e.slot (seen f) (system e base) h.at w.writes refl h.named files in
     let g : Files = with_device d (Some (let g : OpenFile = record f { entry = e.entry; position = 0 } in g)) e in
     let new_is : ended (Truncate d) e ≡ answered (pos 0) g =
-    ap (λ k. answered (if is_write k then counted e.done else pos 0)
+    ap (λ k. answered (if is_write k then counted e.counters.done else pos 0)
     (kept_at (device_at e d) d (if is_truncate k then 0 else at_byte e) e)) is
     ∙ ap (answered (pos 0)) (kept_is e d 0 f at) in
     let P : Files → Type 0 = λ x. GoesTo x.phase (Truncate d) [] e x base made in

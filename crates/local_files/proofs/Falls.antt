@@ -46,7 +46,7 @@ finished_less : (o : Option ℕ) (e : Files) (base : List ℕ) (m : ℕ) → 0 <
 finished_less None e base m h = h
 finished_less (Some d) e base m h =
     let x = moved_to (device_at e d) d (at_byte e) e in
-    below_if (is_getc x.call) (answered (pos (slice_index x.buffer 0)) x) (record x { phase = Done (counted x.total); given = x.total }) base m
+    below_if (is_getc x.call) (answered (pos (slice_index x.buffer 0)) x) (record x { phase = Done (counted x.counters.total); counters = record x.counters { given = x.counters.total } }) base m
     (λ _. h) (λ _. h)
 
 -- how far a piece goes, if it isn't the last
@@ -57,20 +57,20 @@ stepped p d t q d1 q_is left_is most is more =
     (k, omega (arith, k, q_is))
 
 -- a data block was read
-pub fetched_less : (block : List ℕ) (e : Files) (base : List ℕ) → at_byte e ≡ e.position + e.done → e.done < e.total → e.total ≤ 1048576
-    → e.position + e.total < 4294967296 → left (fetched block e) base < read_left e
+pub fetched_less : (block : List ℕ) (e : Files) (base : List ℕ) → at_byte e ≡ e.counters.position + e.counters.done → e.counters.done < e.counters.total → e.counters.total ≤ 1048576
+    → e.counters.position + e.counters.total < 4294967296 → left (fetched block e) base < read_left e
 fetched_less block e base at more most small =
     let x = with_taken block e in
-    below_if (nat_le x.total x.done) (finished_read (named_device x.call) x) (next_fetch x) base (read_left e)
+    below_if (nat_le x.counters.total x.counters.done) (finished_read (named_device x.call) x) (next_fetch x) base (read_left e)
     (λ _. finished_less (named_device x.call) x base (read_left e) (omega (arith, more)))
-    (λ t. goes (let l : x.done < x.total = grind (arith, nat_tests) in l))
+    (λ t. goes (let l : x.counters.done < x.counters.total = grind (arith, nat_tests) in l))
   where
-    goes : (with_taken block e).done < (with_taken block e).total → left (next_fetch (with_taken block e)) base < read_left e
+    goes : (with_taken block e).counters.done < (with_taken block e).counters.total → left (next_fetch (with_taken block e)) base < read_left e
     goes l =
         let x = with_taken block e in
-        let s = stepped e.position e.done e.total (at_byte e) x.done at more most refl l in
+        let s = stepped e.counters.position e.counters.done e.counters.total (at_byte e) x.counters.done at more most refl l in
         let on = s.0 in let row = s.1 in
-        let at2 : at_byte x ≡ e.position + x.done = omega (arith, small, l) in
+        let at2 : at_byte x ≡ e.counters.position + x.counters.done = omega (arith, small, l) in
         below_if (at_byte x % 8192 == 0) (going_on (Walk 0 x.index.next) x) (going_on (Fetch (slice_index x.index.blocks (at_byte x / 512 % 16))) x) base
         (read_left e)
         (λ t. walking_less 0 x.index.next x base (read_left e)
@@ -99,20 +99,20 @@ reach_to_less e base m first next =
 -- no more bytes are put
 end_put_less : (e : Files) (base : List ℕ) (m : ℕ) → 4 < m → left (end_put e) base < m
 end_put_less e base m h =
-    below_if (e.done == 0) (answered (negsuc 0) e) (record e { phase = Wants EntryRead }) base m (λ _. omega (arith, h)) (λ _. h)
+    below_if (e.counters.done == 0) (answered (negsuc 0) e) (record e { phase = Wants EntryRead }) base m (λ _. omega (arith, h)) (λ _. h)
 
 -- goes on with the bytes that are left
-pub next_put_less : (e : Files) (base : List ℕ) (m : ℕ) → 4 < m → (e.done < e.total → 6 + put_left e < m)
-    → (e.done < e.total → e.reached ≢ target e + 1 → left (reach_to e) base < m) → left (next_put e) base < m
+pub next_put_less : (e : Files) (base : List ℕ) (m : ℕ) → 4 < m → (e.counters.done < e.counters.total → 6 + put_left e < m)
+    → (e.counters.done < e.counters.total → e.reached ≢ target e + 1 → left (reach_to e) base < m) → left (next_put e) base < m
 next_put_less e base m four put reach =
-    below_if (nat_le e.total e.done) (end_put e) (if at_end e then appending e else in_place e) base m
+    below_if (nat_le e.counters.total e.counters.done) (end_put e) (if at_end e then appending e else in_place e) base m
     (λ _. end_put_less e base m four)
-    (λ t. more (let l : e.done < e.total = grind (arith, nat_tests) in l))
+    (λ t. more (let l : e.counters.done < e.counters.total = grind (arith, nat_tests) in l))
   where
     other : (k n : ℕ) → (k == n) ≡ false → k ≢ n
     other k n t z = absurd (let h : nat_eq k n ≡ true = grind (arith, nat_tests) in false≢true (sym t ∙ h))
 
-    more : e.done < e.total → left (if at_end e then appending e else in_place e) base < m
+    more : e.counters.done < e.counters.total → left (if at_end e then appending e else in_place e) base < m
     more l =
         let full = (e.header.free_data == null) || ((at_byte e % 8192 == 0) && (e.header.free_index == null)) in
         let at_it = e.reached == target e + 1 in
@@ -131,16 +131,16 @@ next_put_less e base m four put reach =
         (λ t. reach l (other e.reached (target e + 1) t)))
 
 -- a piece is put, at an index block
-pub put_on_less : (e x : Files) (base : List ℕ) (m : ℕ) → at_byte e ≡ e.position + e.done → e.done < e.total → e.total ≤ 1048576
-    → x.position ≡ e.position → x.total ≡ e.total → x.done ≡ (e.done + piece e) % 4294967296 → x.reached ≢ 0 → put_left e < m
+pub put_on_less : (e x : Files) (base : List ℕ) (m : ℕ) → at_byte e ≡ e.counters.position + e.counters.done → e.counters.done < e.counters.total → e.counters.total ≤ 1048576
+    → x.counters.position ≡ e.counters.position → x.counters.total ≡ e.counters.total → x.counters.done ≡ (e.counters.done + piece e) % 4294967296 → x.reached ≢ 0 → put_left e < m
     → left (next_put x) base < m
 put_on_less e x base m at more most p t d r h =
     next_put_less x base m (omega (arith, h)) (λ l. (let f = fewer l in omega (arith, f, h)))
     (λ l _. reach_to_less x base m (λ z. absurd (r z)) (λ _. (let f = fewer l in omega (arith, f, h))))
   where
-    fewer : x.done < x.total → put_left x + 7 ≤ put_left e
+    fewer : x.counters.done < x.counters.total → put_left x + 7 ≤ put_left e
     fewer l =
-        let s = stepped e.position e.done e.total (at_byte e) x.done at more most d (omega (arith, l, t)) in
+        let s = stepped e.counters.position e.counters.done e.counters.total (at_byte e) x.counters.done at more most d (omega (arith, l, t)) in
         let on = s.0 in let row = s.1 in
         omega (arith, on, row, p, t, l, at)
 

@@ -46,11 +46,11 @@ pub fetched_goes : (e e' : Files) (b : ℕ) (base disk read : List ℕ) → e.ph
 fetched_goes e e' b base disk read phase wide new s honest =
     let P : Files → Type 0 = λ x. GoesTo x.phase e.call (call_bytes e) e x base disk in
     let D : List ℕ → Type 0 = λ y. GoesTo (fetched read e).phase e.call (call_bytes e) e (fetched read e) base y in
-    subst P (sym new) (subst D (sym w.reading.same) (either-way (nat_le e2.total e2.done)
-    (λ v. nat_le e2.total e2.done ≡ v → G (if v then finished_read (named_device e2.call) e2 else next_fetch e2))
-    (λ _ t. (let end : e2.total ≤ e2.done = grind (arith, nat_tests) in
+    subst P (sym new) (subst D (sym w.same) (either-way (nat_le e2.counters.total e2.counters.done)
+    (λ v. nat_le e2.counters.total e2.counters.done ≡ v → G (if v then finished_read (named_device e2.call) e2 else next_fetch e2))
+    (λ _ t. (let end : e2.counters.total ≤ e2.counters.done = grind (arith, nat_tests) in
     finished e2.call refl (let d = done_is in let l = r.left in let y = k_is in omega (arith, end, d, l, y))))
-    (λ _ t. (let more : e2.done < e2.total = grind (arith, nat_tests) in goes_on more))
+    (λ _ t. (let more : e2.counters.done < e2.counters.total = grind (arith, nat_tests) in goes_on more))
     refl))
   where
     G : Files → Type 0
@@ -59,20 +59,8 @@ fetched_goes e e' b base disk read phase wide new s honest =
     w : IsFetching e b base disk
     w = let H : Phase → Type 0 = λ p. InHand p e base disk in subst H phase s.hand
 
-    r : IsReading e base base
-    r = record {
-      same = refl;
-      some = w.reading.some;
-      few = w.reading.few;
-      file = w.reading.file;
-      open_is = w.reading.open_is;
-      reads = w.reading.reads;
-      position = w.reading.position;
-      within = w.reading.within;
-      total = w.reading.total;
-      left = w.reading.left;
-      taken = w.reading.taken;
-    }
+    r : IsReading e base
+    r = w.reading
 
     st : IsStanding e base base
     st = at_base s.standing
@@ -96,7 +84,7 @@ fetched_goes e e' b base disk read phase wide new s honest =
     pos_is = r.file.position
 
     q : ℕ
-    q = pos_is + e.done
+    q = pos_is + e.counters.done
 
     at_is : at_byte e ≡ q
     at_is = where_is e base st r
@@ -104,23 +92,23 @@ fetched_goes e e' b base disk read phase wide new s honest =
     k : ℕ
     k = piece e
 
-    k_is : k ≡ min (512 - q % 512) (e.total - e.done)
-    k_is = ap (λ x. min (512 - x % 512) (e.total - e.done)) at_is
+    k_is : k ≡ min (512 - q % 512) (e.counters.total - e.counters.done)
+    k_is = ap (λ x. min (512 - x % 512) (e.counters.total - e.counters.done)) at_is
 
     e2 : Files
     e2 = with_taken read e
 
-    total_small : e.total ≤ 1048576
+    total_small : e.counters.total ≤ 1048576
     total_small = let t = r.total in let n = r.few in omega (arith, t, n)
 
-    done_is : e2.done ≡ e.done + k
+    done_is : e2.counters.done ≡ e.counters.done + k
     done_is = let l = r.left in let t = total_small in let y = k_is in omega (arith, l, t, y)
 
     inside : q / 512 < length data_list
     inside = let t = r.total in let l = r.left in let v = r.within in let bl = f.blocks_long in omega (arith, t, l, v, bl)
 
     block_is : read ≡ block_in base (slice_index data_list (q / 512))
-    block_is = honest ∙ ap (λ x. block_in x b) w.reading.same ∙ ap (block_in base) w.here
+    block_is = honest ∙ ap (λ x. block_in x b) w.same ∙ ap (block_in base) w.here
 
     wide_at : (j : ℕ) → j < length data_list → length (block_in base (slice_index data_list j)) ≡ 512
     wide_at j h = block_long e.blocks base (slice_index data_list j) s.blocks (f.block j h).1
@@ -137,38 +125,38 @@ fetched_goes e e' b base disk read phase wide new s honest =
     part_long = let t = length-take k (drop (at_byte e % 512) read) in let d = length-drop (at_byte e % 512) read in let y = k_is in
         let a = at_is in omega (arith, t, d, wide, y, a)
 
-    buffer_is : e2.buffer ≡ overwritten e.done part e.buffer
+    buffer_is : e2.buffer ≡ overwritten e.counters.done part e.buffer
     buffer_is = let l = r.left in let t = total_small in let y = k_is in let p = part_long in
-        let on : nat_le (e.done + length part) 1048576 ≡ true =
-        (let z : e.done + length part ≤ 1048576 = omega (arith, p, l, t, y) in grind (arith, nat_tests)) in
-        ap (λ v. if v then overwritten e.done part e.buffer else e.buffer) on
+        let on : nat_le (e.counters.done + length part) 1048576 ≡ true =
+        (let z : e.counters.done + length part ≤ 1048576 = omega (arith, p, l, t, y) in grind (arith, nat_tests)) in
+        ap (λ v. if v then overwritten e.counters.done part e.buffer else e.buffer) on
 
     buffer_long : length e2.buffer ≡ 1048576
     buffer_long = let l = r.left in let t = total_small in let y = k_is in let p = part_long in let bl = s.buffer in
-        ap length buffer_is ∙ length_overwritten e.done part e.buffer (omega (arith, l, t, bl)) ∙ (omega (arith, p, l, t, y, bl))
+        ap length buffer_is ∙ length_overwritten e.counters.done part e.buffer (omega (arith, l, t, bl)) ∙ (omega (arith, p, l, t, y, bl))
 
-    taken : take e2.done e2.buffer ≡ take e2.done (drop pos_is (entry_bytes base entry))
+    taken : take e2.counters.done e2.buffer ≡ take e2.counters.done (drop pos_is (entry_bytes base entry))
     taken =
         let l = r.left in let t = total_small in let bl = s.buffer in
-        let front : length (take e.done e.buffer) ≡ e.done = (let x = length-take e.done e.buffer in omega (arith, x, bl, l, t)) in
-        let row = take e.done e.buffer ++ (part ++ drop (e.done + length part) e.buffer) in
-        let one : take (e.done + k) row ≡ take e.done e.buffer ++ part =
-        take_add e.done k row ∙ ap (λ x. x ++ take k (drop e.done row))
-        (take_at (take e.done e.buffer) (part ++ drop (e.done + length part) e.buffer) e.done front)
-        ∙ ap (λ x. take e.done e.buffer ++ take k x)
-        (drop_at (take e.done e.buffer) (part ++ drop (e.done + length part) e.buffer) e.done front)
-        ∙ ap (λ x. take e.done e.buffer ++ x) (take_at part (drop (e.done + length part) e.buffer) k part_long) in
-        let two : take (e.done + k) (drop pos_is (entry_bytes base entry)) ≡ take e.done (drop pos_is (entry_bytes base entry)) ++ part =
-        take_add e.done k (drop pos_is (entry_bytes base entry))
-        ∙ ap (λ x. take e.done (drop pos_is (entry_bytes base entry)) ++ take k x) (drop-drop e.done pos_is (entry_bytes base entry))
-        ∙ ap (λ x. take e.done (drop pos_is (entry_bytes base entry)) ++ x) ahead in
-        ap (λ n. take n e2.buffer) done_is ∙ ap (take (e.done + k)) buffer_is ∙ one ∙ ap (λ x. x ++ part) r.taken ∙ sym two
+        let front : length (take e.counters.done e.buffer) ≡ e.counters.done = (let x = length-take e.counters.done e.buffer in omega (arith, x, bl, l, t)) in
+        let row = take e.counters.done e.buffer ++ (part ++ drop (e.counters.done + length part) e.buffer) in
+        let one : take (e.counters.done + k) row ≡ take e.counters.done e.buffer ++ part =
+        take_add e.counters.done k row ∙ ap (λ x. x ++ take k (drop e.counters.done row))
+        (take_at (take e.counters.done e.buffer) (part ++ drop (e.counters.done + length part) e.buffer) e.counters.done front)
+        ∙ ap (λ x. take e.counters.done e.buffer ++ take k x)
+        (drop_at (take e.counters.done e.buffer) (part ++ drop (e.counters.done + length part) e.buffer) e.counters.done front)
+        ∙ ap (λ x. take e.counters.done e.buffer ++ x) (take_at part (drop (e.counters.done + length part) e.buffer) k part_long) in
+        let two : take (e.counters.done + k) (drop pos_is (entry_bytes base entry)) ≡ take e.counters.done (drop pos_is (entry_bytes base entry)) ++ part =
+        take_add e.counters.done k (drop pos_is (entry_bytes base entry))
+        ∙ ap (λ x. take e.counters.done (drop pos_is (entry_bytes base entry)) ++ take k x) (drop-drop e.counters.done pos_is (entry_bytes base entry))
+        ∙ ap (λ x. take e.counters.done (drop pos_is (entry_bytes base entry)) ++ x) ahead in
+        ap (λ n. take n e2.buffer) done_is ∙ ap (take (e.counters.done + k)) buffer_is ∙ one ∙ ap (λ x. x ++ part) r.taken ∙ sym two
         ∙ ap (λ n. take n (drop pos_is (entry_bytes base entry))) (sym done_is)
 
     st2 : IsStanding e2 base base
     st2 = with_buffer (at_base s.standing) buffer_long
 
-    at2 : at_byte e2 ≡ pos_is + e2.done
+    at2 : at_byte e2 ≡ pos_is + e2.counters.done
     at2 = let t = r.total in let l = r.left in let v = r.within in let y = k_is in let d = done_is in let p = r.position in let z = small in
         omega (arith, t, l, v, y, d, p, z)
       where
@@ -176,10 +164,9 @@ fetched_goes e e' b base disk read phase wide new s honest =
         small = let P : Entry → Type 0 = λ x. x.size ≤ 33557504 in
             subst P o.entry (entry_small base s.clean r.file.slot o.slot (ap entry_is_used o.entry ∙ o.used))
 
-    goes_on : e2.done < e2.total → G (next_fetch e2)
+    goes_on : e2.counters.done < e2.counters.total → G (next_fetch e2)
     goes_on more =
-        let r2 : IsReading e2 base base = record {
-          same = refl;
+        let r2 : IsReading e2 base = record {
           some = r.some;
           few = r.few;
           file = r.file;
@@ -191,7 +178,7 @@ fetched_goes e e' b base disk read phase wide new s honest =
           left = more;
           taken = taken;
         } in
-        let q2 = pos_is + e2.done in
+        let q2 = pos_is + e2.counters.done in
         let y = k_is in let d = done_is in let l = r.left in
         let bound : q2 % 512 ≡ 0 = omega (arith, y, d, l, more) in
         let cl = f.chain_long in let bl = f.blocks_long in let t = r.total in let v = r.within in
@@ -248,7 +235,7 @@ fetched_goes e e' b base disk read phase wide new s honest =
     end_in = let t = r.total in let y = k_is in let v = r.within in let l = r.left in omega (arith, t, y, v, l)
 
     -- the reply and the bytes
-    finished : (c : FileCall) → e.call ≡ c → e.done + k ≡ e.total
+    finished : (c : FileCall) → e.call ≡ c → e.counters.done + k ≡ e.counters.total
         → GoesTo (finished_read (named_device c) (record e2 {
           call =
               c;
@@ -258,38 +245,38 @@ fetched_goes e e' b base disk read phase wide new s honest =
         let e3 : Files = record e2 { call = Read d n } in
         let s3 : IsStanding e3 base base = with_buffer (at_base s.standing) buffer_long in
         let count : read_count e.call ≡ n = ap read_count is in
-        let total : e.total ≡ min n (entry.size - pos_is) = r.total ∙ ap (λ x. min x (entry.size - pos_is)) count in
+        let total : e.counters.total ≡ min n (entry.size - pos_is) = r.total ∙ ap (λ x. min x (entry.size - pos_is)) count in
         let ahead_bytes = drop pos_is (entry_bytes base entry) in
         let ahead_long : length ahead_bytes ≡ entry.size - pos_is = length-drop pos_is (entry_bytes base entry)
         ∙ ap (λ x. x - pos_is) sized in
-        let whole : take n ahead_bytes ≡ take e.total ahead_bytes = ap (λ x. take x ahead_bytes) refl ∙ take_min n ahead_bytes
+        let whole : take n ahead_bytes ≡ take e.counters.total ahead_bytes = ap (λ x. take x ahead_bytes) refl ∙ take_min n ahead_bytes
         ∙ ap (λ x. take (min n x) ahead_bytes) ahead_long ∙ ap (λ x. take x ahead_bytes) (sym total) in
-        let many : e.total ≡ length (take n (drop pos_is (entry_bytes base (entry_at base r.file.slot)))) =
-        (let t = length-take e.total ahead_bytes in let z : length (take e.total ahead_bytes) ≡ e.total =
+        let many : e.counters.total ≡ length (take n (drop pos_is (entry_bytes base (entry_at base r.file.slot)))) =
+        (let t = length-take e.counters.total ahead_bytes in let z : length (take e.counters.total ahead_bytes) ≡ e.counters.total =
         omega (arith, t, ahead_long, total) in sym z) ∙ ap length (sym whole) ∙ ap (λ b. length (take n (drop pos_is b))) (sym bytes_are) in
         let some = r.some in
-        let effect = read_effect base [] d n r.file.slot e.total (seen r.file) (system e base) s.clean o.slot (ap entry_is_used slot_is
+        let effect = read_effect base [] d n r.file.slot e.counters.total (seen r.file) (system e base) s.clean o.slot (ap entry_is_used slot_is
         ∙ o.used) (seen_at d at) r.reads refl (ap (λ (x : Entry). bare_name x.name) (sym slot_is))
         (omega (arith, some, count)) (let v = r.within in let z = ap (λ (x : Entry). x.size) slot_is in omega (arith, v, z)) many in
-        let given : take n (drop pos_is (entry_bytes base (entry_at base r.file.slot))) ≡ take e.total e2.buffer =
+        let given : take n (drop pos_is (entry_bytes base (entry_at base r.file.slot))) ≡ take e.counters.total e2.buffer =
         ap (λ b. take n (drop pos_is b)) bytes_are ∙ whole ∙ ap (λ x. take x ahead_bytes) (sym end ∙ sym done_is) ∙ sym taken
         ∙ ap (λ x. take x e2.buffer) (done_is ∙ end) in
         let pos_end : at_byte e2 ≡ q + k = at2 ∙ ap (λ x. pos_is + x) done_is ∙ (omega arith) in
         let g : OpenFile = record r.file { position = q + k } in
-        let new_is : finished_at d e3 ≡ record (with_device d (Some g) e3) { phase = Done (pos e.total); given = e.total } =
+        let new_is : finished_at d e3 ≡ record (with_device d (Some g) e3) { phase = Done (pos e.counters.total); counters = record e2.counters { given = e.counters.total } } =
         ap (λ x. given_all (moved_to x d (at_byte e2) e3)) at
         ∙ ap (λ x. given_all (with_device d (Some (let y : OpenFile = record r.file { position = x } in y)) e3)) pos_end
-        ∙ ap (λ z. (let y : Files = record (with_device d (Some g) e3) { phase = Done z; given = e.total } in
-        y)) (counted_small e.total total_small) in
+        ∙ ap (λ z. (let y : Files = record (with_device d (Some g) e3) { phase = Done z; counters = record e2.counters { given = e.counters.total } } in
+        y)) (counted_small e.counters.total total_small) in
         let result : List ℕ → List (Option systems.OpenFile) → FileEffect = λ b ds.
-        record { system = record (system e base) { devices = ds }; reply = pos e.total; bytes = b } in
+        record { system = record (system e base) { devices = ds }; reply = pos e.counters.total; bytes = b } in
         let x : ℕ → systems.OpenFile = λ p. record (seen r.file) { position = p } in
         let m = moved_stands e3 base d (q + k) r.file s3 o at end_in in
         let P : Files → Type 0 = λ y. GoesTo y.phase (Read d n) [] e y base base in
         subst P (sym new_is) (
-          effect ∙ ap (λ b. result b (slice_set (map shown e.devices) d (Some (x (pos_is + e.total))))) given
-              ∙ ap (λ p. result (take e.total e2.buffer) (slice_set (map shown e.devices) d (Some (x p)))) (let z : pos_is + e.total ≡ q + k =
-              omega (arith, end) in z) ∙ ap (result (take e.total e2.buffer)) (sym (shown_set e.devices d (Some g))),
+          effect ∙ ap (λ b. result b (slice_set (map shown e.devices) d (Some (x (pos_is + e.counters.total))))) given
+              ∙ ap (λ p. result (take e.counters.total e2.buffer) (slice_set (map shown e.devices) d (Some (x p)))) (let z : pos_is + e.counters.total ≡ q + k =
+              omega (arith, end) in z) ∙ ap (result (take e.counters.total e2.buffer)) (sym (shown_set e.devices d (Some g))),
           record {
             standing = at_base m.standing;
             hand = refl;
@@ -301,7 +288,7 @@ fetched_goes e e' b base disk read phase wide new s honest =
         let s3 : IsStanding e3 base base = with_buffer (at_base s.standing) buffer_long in
         let count : read_count e.call ≡ 1 = ap read_count is in
         let v = r.within in
-        let total : e.total ≡ 1 = r.total ∙ ap (λ x. min x (entry.size - pos_is)) count ∙ (omega (arith, v)) in
+        let total : e.counters.total ≡ 1 = r.total ∙ ap (λ x. min x (entry.size - pos_is)) count ∙ (omega (arith, v)) in
         let byte = slice_index e2.buffer 0 in
         let first : take 1 (drop pos_is (entry_bytes base entry)) ≡ byte ∷ [] =
         ap (λ x. take x (drop pos_is (entry_bytes base entry))) (sym total ∙ sym end ∙ sym done_is) ∙ sym taken

@@ -43,7 +43,7 @@ take_read_goes e e' b base disk read phase new wide s honest =
     let H : Phase → Type 0 = λ p. InHand p e base disk in
     let h : IsTake e b base disk = subst H phase s.hand in
     let r = h.ready in let p = r.places in let u = r.putting in
-    let bytes = overwritten e.position (take e.done (put_bytes e)) (entry_bytes base (entry_at base e.slot)) in
+    let bytes = overwritten e.counters.position (take e.counters.done (put_bytes e)) (entry_bytes base (entry_at base e.slot)) in
     let e2 : Files = take_read b (word_of read) e in
     let rest = drop 1 p.free_data in
     let free : p.free_data ≡ b ∷ rest = free_data_some e.blocks base disk e.header e.slot e.entry p bytes u.middle (λ z.
@@ -121,7 +121,7 @@ take_written_goes e e' b base disk phase new s = subst P (sym new) (either-way (
     h = let H : Phase → Type 0 = λ p. InHand p e base disk in subst H phase s.hand
 
     bytes : List ℕ
-    bytes = overwritten e.position (take e.done (put_bytes e)) (entry_bytes base (entry_at base e.slot))
+    bytes = overwritten e.counters.position (take e.counters.done (put_bytes e)) (entry_bytes base (entry_at base e.slot))
 
     range : (first_data (disk_geometry e.blocks) ≤ b) × (b < e.blocks)
     range = held_range e.blocks base disk e.header e.slot e.entry h.taken.places bytes b h.taken.putting.middle
@@ -130,7 +130,7 @@ take_written_goes e e' b base disk phase new s = subst P (sym new) (either-way (
     whole : length (block_put disk b e.block) ≡ length base
     whole = put_whole e base disk b s range.1
 
-    f : IsPiece e (e.position + e.done)
+    f : IsPiece e (e.counters.position + e.counters.done)
     f = piece_is e base disk h.taken.places s.standing h.taken.putting h.taken.left
 
     middle : IsMiddle e.blocks base (block_put disk b e.block) e.header e.slot e.entry h.taken.places bytes

@@ -81,7 +81,7 @@ link_written_goes e e' b i base disk phase new s =
     let g = growing e base disk p st u n.left n.ends in
     let f = piece_is e base disk p st u n.left in
     let chain = numbers_at p.chains e.slot in let blocks = numbers_at p.datas e.slot in
-    let bytes = overwritten e.position (take e.done (put_bytes e)) (entry_bytes base (entry_at base e.slot)) in
+    let bytes = overwritten e.counters.position (take e.counters.done (put_bytes e)) (entry_bytes base (entry_at base e.slot)) in
     let made = block_put disk (6 + e.at / 7) e.block in
     let size = g.size in let eight = n.whole in let at = g.at in let cl = g.read.chain_long in let bl = g.read.blocks_long in
     let some = h.link.some in

@@ -53,7 +53,7 @@ new_read_goes e e' b i base disk read phase new put s honest =
     let h = subst H phase s.hand in
     let k = h.0.taken in let p = k.places in let u = k.putting in
     let z = h.1.0 in let head = h.1.1 in
-    let bytes = overwritten e.position (take e.done (put_bytes e)) (entry_bytes base (entry_at base e.slot)) in
+    let bytes = overwritten e.counters.position (take e.counters.done (put_bytes e)) (entry_bytes base (entry_at base e.slot)) in
     let rest = drop 1 p.free_index in
     let some = k.index z in
     let free : p.free_index ≡ i ∷ rest = free_index_some e.blocks base disk e.header e.slot e.entry p bytes u.middle some
@@ -98,7 +98,7 @@ new_below e b i base disk n =
 -- the range of a taken data block
 new_range : (e : Files) (b i : ℕ) (base disk : List ℕ) → IsNew e b i base disk → (first_data (disk_geometry e.blocks) ≤ b) × (b < e.blocks)
 new_range e b i base disk n = held_range e.blocks base disk e.header e.slot e.entry n.places
-    (overwritten e.position (take e.done (put_bytes e)) (entry_bytes base (entry_at base e.slot))) b n.putting.middle
+    (overwritten e.counters.position (take e.counters.done (put_bytes e)) (entry_bytes base (entry_at base e.slot))) b n.putting.middle
     (times_first b n.places.held_data [] n.held_data)
 
 -- the first index block of a file
@@ -183,7 +183,7 @@ new_written_goes e e' b i base disk phase new s = subst P (sym new) (either-way 
     u = n.putting
 
     bytes : List ℕ
-    bytes = overwritten e.position (take e.done (put_bytes e)) (entry_bytes base (entry_at base e.slot))
+    bytes = overwritten e.counters.position (take e.counters.done (put_bytes e)) (entry_bytes base (entry_at base e.slot))
 
     below : i < index_count (disk_geometry e.blocks)
     below = new_below e b i base disk n

@@ -42,24 +42,12 @@ module _ (e : Files) (base disk : List ℕ) (s : Stands e base disk) where
   low = (blocks_many e base disk s).0
 
   -- the file that is read
-  read_by : (r : IsReading e base disk) → IsReadBy e.blocks base r.file.entry (entry_chain base r.file.entry) (entry_data base r.file.entry)
-  read_by r = reading_file e base (at_base s.standing) (record {
-    same = refl;
-    some = r.some;
-    few = r.few;
-    file = r.file;
-    open_is = r.open_is;
-    reads = r.reads;
-    position = r.position;
-    within = r.within;
-    total = r.total;
-    left = r.left;
-    taken = r.taken;
-  })
+  read_by : (r : IsReading e base) → IsReadBy e.blocks base r.file.entry (entry_chain base r.file.entry) (entry_data base r.file.entry)
+  read_by r = reading_file e base (at_base s.standing) r
 
   -- the bytes that the file in hand has
   abbrev bytes : List ℕ
-  bytes = overwritten e.position (take e.done (put_bytes e)) (entry_bytes base (entry_at base e.slot))
+  bytes = overwritten e.counters.position (take e.counters.done (put_bytes e)) (entry_bytes base (entry_at base e.slot))
 
   -- the file that is written
   put_by : (p : Places) → IsPutting e base disk p
@@ -108,12 +96,12 @@ module _ (e : Files) (base disk : List ℕ) (s : Stands e base disk) where
   in_phase (Wants (Walk rest at)) h =
       let r = h.reading in let f = read_by r in let here = h.here in let few = h.few in
       let l = f.chain_long in let w = r.within in let t = r.total in let d = r.left in
-      let b = (f.index ((r.file.position + e.done) / 8192 - rest) (omega (arith, l, w, t, d))).below in
+      let b = (f.index ((r.file.position + e.counters.done) / 8192 - rest) (omega (arith, l, w, t, d))).below in
       omega (arith, here, b, low)
   in_phase (Wants (Fetch k)) h =
       let r = h.reading in let f = read_by r in let here = h.here in
       let l = f.blocks_long in let w = r.within in let t = r.total in let d = r.left in
-      let b = (f.block ((r.file.position + e.done) / 512) (omega (arith, l, w, t, d))).1 in
+      let b = (f.block ((r.file.position + e.counters.done) / 512) (omega (arith, l, w, t, d))).1 in
       omega (arith, here, b)
   in_phase (Wants Counts) h = omega (arith, low)
   in_phase (Wants (Reach rest at)) h =
@@ -179,7 +167,7 @@ module _ (e : Files) (base disk : List ℕ) (s : Stands e base disk) where
       by_phase (Wants (Walk rest at)) w h = omega arith
       by_phase (Wants (Fetch b)) w h = let d = h.reading.left in omega (arith, d)
       by_phase (Wants Counts) w h = either-way (is_truncate e.call)
-          (λ v. 1 ≤ (if v then 1 + cut_left (entry_at base e.slot).size 0 0 else e.position / 8192 + 8 + put_left e)) (λ _. omega arith)
+          (λ v. 1 ≤ (if v then 1 + cut_left (entry_at base e.slot).size 0 0 else e.counters.position / 8192 + 8 + put_left e)) (λ _. omega arith)
           (λ _. omega arith)
       by_phase (Wants (Reach rest at)) w h = omega arith
       by_phase (Wants (PatchRead b)) w h = omega arith

@@ -51,36 +51,36 @@ target_either e = either-way (at_end e && nat_lt 0 (at_byte e))
 
 -- the bytes of a piece
 abbrev pub piece_bytes : Files → List ℕ
-piece_bytes e = take (piece e) (drop e.done e.buffer)
+piece_bytes e = take (piece e) (drop e.counters.done e.buffer)
 
 -- facts of a piece
 pub record IsPiece (e : Files) (q : ℕ) : Type 0 where
   pub at : at_byte e ≡ q
   pub some : 0 < piece e
   pub fits : q % 512 + piece e ≤ 512
-  pub few : e.done + piece e ≤ e.total
+  pub few : e.counters.done + piece e ≤ e.counters.total
   pub long : length (piece_bytes e) ≡ piece e
-  pub more : take e.done (put_bytes e) ++ piece_bytes e ≡ take (e.done + piece e) (put_bytes e)
-  pub done : (put_done e).done ≡ e.done + piece e
+  pub more : take e.counters.done (put_bytes e) ++ piece_bytes e ≡ take (e.counters.done + piece e) (put_bytes e)
+  pub done : (put_done e).counters.done ≡ e.counters.done + piece e
   pub next_at : at_byte (put_done e) ≡ q + piece e
   pub size : (put_done e).entry.size ≡ max e.entry.size (q + piece e)
 
 -- what a piece is
-pub piece_is : (e : Files) (base disk : List ℕ) (p : Places) → IsStanding e base disk → (u : IsPutting e base disk p) → e.done < e.total
-    → IsPiece e (e.position + e.done)
+pub piece_is : (e : Files) (base disk : List ℕ) (p : Places) → IsStanding e base disk → (u : IsPutting e base disk p) → e.counters.done < e.counters.total
+    → IsPiece e (e.counters.position + e.counters.done)
 piece_is e base disk p s u left =
     let q = where_put e base disk p s u in
     let small = put_small e base disk p s u in let within = (put_open e base disk p s u).position in
     let a = u.position in let m = u.most in let bl = s.buffer in
-    let d = length-drop e.done e.buffer in let t = length-take (piece e) (drop e.done e.buffer) in
+    let d = length-drop e.counters.done e.buffer in let t = length-take (piece e) (drop e.counters.done e.buffer) in
     record {
       at = q;
       some = omega (arith, left, q);
       fits = omega (arith, q);
       few = omega (arith, left);
       long = omega (arith, t, d, bl, left, m);
-      more = ap (λ x. x ++ piece_bytes e) (take-take e.done e.total e.buffer (omega (arith, left)))
-          ∙ sym (take_add e.done (piece e) e.buffer) ∙ sym (take-take (e.done + piece e) e.total e.buffer (omega (arith, left)));
+      more = ap (λ x. x ++ piece_bytes e) (take-take e.counters.done e.counters.total e.buffer (omega (arith, left)))
+          ∙ sym (take_add e.counters.done (piece e) e.buffer) ∙ sym (take-take (e.counters.done + piece e) e.counters.total e.buffer (omega (arith, left)));
       done = omega (arith, left, m);
       next_at = omega (arith, q, left, m, small, within, a);
       size = omega (arith, q, left, m, small, within, a);
@@ -88,14 +88,14 @@ piece_is e base disk p s u left =
 
 -- A piece is on the disk, and so are its numbers if it is in a new block: the call goes on.
 pub after_goes : (e : Files) (entry : Entry) (ix : Index) (a r : ℕ) (base disk made : List ℕ) (p p' : Places) → IsStanding e base disk
-    → length made ≡ length base → (u : IsPutting e base disk p) → e.done < e.total
+    → length made ≡ length base → (u : IsPutting e base disk p) → e.counters.done < e.counters.total
     → entry.size ≡ e.entry.size
     → IsMiddle e.blocks base made e.header e.slot (put_done (record e {
       entry = entry;
       index = ix;
       at = a;
       reached = r;
-    })).entry p' (overwritten e.position (take (e.done + piece e) (put_bytes e)) (entry_bytes base (entry_at base e.slot)))
+    })).entry p' (overwritten e.counters.position (take (e.counters.done + piece e) (put_bytes e)) (entry_bytes base (entry_at base e.slot)))
     → p'.held_index ≡ [] → p'.held_data ≡ [] → IsAt (put_done (record e { entry = entry; index = ix; at = a; reached = r })) p'
     → r ≡ at_byte e / 8192 + 1
     → GoesTo (next_put (put_done (record e {
@@ -114,7 +114,7 @@ after_goes e entry ix a r base disk made p p' s whole u left size middle no_inde
     let f = piece_is e base disk p s u left in
     let done = f.done in let some = f.some in let few = f.few in
     let M : ℕ → Type 0 = λ k. IsMiddle e.blocks base made e.header e.slot x.entry p'
-    (overwritten e.position (take k (put_bytes e)) (entry_bytes base (entry_at base e.slot))) in
+    (overwritten e.counters.position (take k (put_bytes e)) (entry_bytes base (entry_at base e.slot))) in
     let u2 : IsPutting x base made p' = record {
       call = u.call;
       file = u.file;
@@ -147,33 +147,33 @@ after_goes e entry ix a r base disk made p p' s whole u left size middle no_inde
     goes_from (next_put x).phase e.call (call_bytes e) x e (next_put x) base made refl (next_put_goes x base made sx ready)
 
 -- what a block gets of the buffer
-pub patched_is : (e : Files) (from : ℕ) (block : List ℕ) → e.done + piece e ≤ 1048576 → from + piece e ≤ 512
-    → patched e.done (piece e) from e.buffer block ≡ overwritten from (piece_bytes e) block
+pub patched_is : (e : Files) (from : ℕ) (block : List ℕ) → e.counters.done + piece e ≤ 1048576 → from + piece e ≤ 512
+    → patched e.counters.done (piece e) from e.buffer block ≡ overwritten from (piece_bytes e) block
 patched_is e from block a b =
-    let x : nat_le (e.done + piece e) 1048576 ≡ true = grind (arith, nat_tests) in
+    let x : nat_le (e.counters.done + piece e) 1048576 ≡ true = grind (arith, nat_tests) in
     let y : nat_le (from + piece e) 512 ≡ true = grind (arith, nat_tests) in
     ap (λ v. if v && nat_le (from + piece e) 512 then overwritten from (piece_bytes e) block else block) x
     ∙ ap (λ v. if v then overwritten from (piece_bytes e) block else block) y
 
 -- the bytes of the file after a piece
-pub piece_more : (e : Files) (q : ℕ) (old : List ℕ) → IsPiece e q → length (take e.done (put_bytes e)) ≡ e.done → q ≡ e.position + e.done
-    → e.position ≤ length old
-    → overwritten q (piece_bytes e) (overwritten e.position (take e.done (put_bytes e)) old) ≡ overwritten e.position
-    (take (e.done + piece e) (put_bytes e)) old
+pub piece_more : (e : Files) (q : ℕ) (old : List ℕ) → IsPiece e q → length (take e.counters.done (put_bytes e)) ≡ e.counters.done → q ≡ e.counters.position + e.counters.done
+    → e.counters.position ≤ length old
+    → overwritten q (piece_bytes e) (overwritten e.counters.position (take e.counters.done (put_bytes e)) old) ≡ overwritten e.counters.position
+    (take (e.counters.done + piece e) (put_bytes e)) old
 piece_more e q old f long q_is low =
-    ap (λ k. overwritten k (piece_bytes e) (overwritten e.position (take e.done (put_bytes e)) old)) (q_is
-    ∙ ap (λ k. e.position + k) (sym long))
-    ∙ overwritten_more e.position (take e.done (put_bytes e)) (piece_bytes e) old low ∙ ap (λ x. overwritten e.position x old) f.more
+    ap (λ k. overwritten k (piece_bytes e) (overwritten e.counters.position (take e.counters.done (put_bytes e)) old)) (q_is
+    ∙ ap (λ k. e.counters.position + k) (sym long))
+    ∙ overwritten_more e.counters.position (take e.counters.done (put_bytes e)) (piece_bytes e) old low ∙ ap (λ x. overwritten e.counters.position x old) f.more
 
 -- how many bytes are put
 pub done_long : (e : Files) (base disk : List ℕ) (p : Places) → IsStanding e base disk → (u : IsPutting e base disk p)
-    → length (take e.done (put_bytes e)) ≡ e.done
-done_long e base disk p s u = let t = length-take e.done (put_bytes e) in let n = puts_long e base disk p s u in let f = u.few in
+    → length (take e.counters.done (put_bytes e)) ≡ e.counters.done
+done_long e base disk p s u = let t = length-take e.counters.done (put_bytes e) in let n = puts_long e base disk p s u in let f = u.few in
     omega (arith, t, n, f)
 
 -- the position is within the file
 pub low_old : (e : Files) (base disk : List ℕ) (p : Places) → IsStanding e base disk → (u : IsPutting e base disk p)
-    → e.position ≤ length (entry_bytes base (entry_at base e.slot))
+    → e.counters.position ≤ length (entry_bytes base (entry_at base e.slot))
 low_old e base disk p s u =
     let is = ap (λ (x : Entry). x.size) (put_entry_is e base disk p s u) in
     let old = bytes_sized base s.clean e.slot u.middle.slot_is u.middle.was_used in
@@ -186,7 +186,7 @@ pub patch_read_goes : (e e' : Files) (b : ℕ) (base disk read : List ℕ) → e
 patch_read_goes e e' b base disk read phase new wide wide' s honest =
     let H : Phase → Type 0 = λ p. InHand p e base disk in
     let h : IsPatch e b base disk = subst H phase s.hand in
-    let block = patched e.done (piece e) (at_byte e % 512) e.buffer read in
+    let block = patched e.counters.done (piece e) (at_byte e % 512) e.buffer read in
     let e2 : Files = record e { block = block; phase = Wants (PatchWrite b) } in
     let P : Files → Type 0 = λ x. GoesTo x.phase e.call (call_bytes e) e x base disk in
     subst P (sym new) (
@@ -200,7 +200,7 @@ patch_read_goes e e' b base disk read phase new wide wide' s honest =
             inside = h.inside;
             here = h.here;
           };
-          block = ap (patched e.done (piece e) (at_byte e % 512) e.buffer) honest;
+          block = ap (patched e.counters.done (piece e) (at_byte e % 512) e.buffer) honest;
         };
       },
       refl,
@@ -216,10 +216,10 @@ patch_written_goes e e' b base disk phase new s =
     let h : IsPatched e b base disk = subst H phase s.hand in
     let r = h.patch.ready in let p = r.places in let u = r.putting in
     let st = s.standing in
-    let q = e.position + e.done in
+    let q = e.counters.position + e.counters.done in
     let f = piece_is e base disk p st u h.patch.left in
     let old = entry_bytes base (entry_at base e.slot) in
-    let bytes = overwritten e.position (take e.done (put_bytes e)) old in
+    let bytes = overwritten e.counters.position (take e.counters.done (put_bytes e)) old in
     let made = block_put disk b e.block in
     let at = f.at in let few = f.few in let most = u.most in
     let lt = inside_is e base disk p st u h.patch.inside in
@@ -269,7 +269,7 @@ reached_goes e e' rest at base disk read phase new s honest = subst P (sym new) 
 
     file : IsReadBy e.blocks disk e.entry (numbers_at h.ready.places.chains e.slot) (numbers_at h.ready.places.datas e.slot)
     file = middle_read e.blocks base disk e.header e.slot e.entry h.ready.places
-        (overwritten e.position (take e.done (put_bytes e)) (entry_bytes base (entry_at base e.slot))) h.ready.putting.middle
+        (overwritten e.counters.position (take e.counters.done (put_bytes e)) (entry_bytes base (entry_at base e.slot))) h.ready.putting.middle
 
     index_is : index_at (at % 7) read ≡ index_for (target e - rest) (numbers_at h.ready.places.chains e.slot)
         (numbers_at h.ready.places.datas e.slot)

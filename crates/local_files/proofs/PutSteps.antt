@@ -33,7 +33,7 @@ use Rattle.local_files.specs.declared.Purpose.TheVariants.{Reach, PatchRead, Tak
 abbrev pub put_changed : (e : Files) (ph : Phase) (ix : Index) (hd : Header) (a r : ℕ) (b : List ℕ) (base disk made : List ℕ) (p p2 : Places)
     → IsPutting e base disk p → hd.files ≡ e.header.files
     → IsMiddle e.blocks base made hd e.slot e.entry p2
-    (overwritten e.position (take e.done (put_bytes e)) (entry_bytes base (entry_at base e.slot)))
+    (overwritten e.counters.position (take e.counters.done (put_bytes e)) (entry_bytes base (entry_at base e.slot)))
     → IsPutting (record e { phase = ph; index = ix; header = hd; at = a; reached = r; block = b }) base made p2
 put_changed e ph ix hd a r b base disk made p p2 u files middle = record {
   call = u.call;
@@ -88,7 +88,7 @@ pub inside_is : (e : Files) (base disk : List ℕ) (p : Places) → IsStanding e
     → at_byte e / 512 < length (numbers_at p.datas e.slot)
 inside_is e base disk p s u t =
     let r = (middle_read e.blocks base disk e.header e.slot e.entry p
-    (overwritten e.position (take e.done (put_bytes e)) (entry_bytes base (entry_at base e.slot))) u.middle).blocks_long in
+    (overwritten e.counters.position (take e.counters.done (put_bytes e)) (entry_bytes base (entry_at base e.slot))) u.middle).blocks_long in
     let q = where_put e base disk p s u in let z = put_size e base disk p s u in
     ⊎_elim
     (λ (lt : at_byte e < e.entry.size). omega (arith, lt, r))
@@ -117,7 +117,7 @@ module _ (e : Files) (base disk : List ℕ) (s : IsStanding e base disk) (r : Is
   u = r.putting
 
   abbrev bytes : List ℕ
-  bytes = overwritten e.position (take e.done (put_bytes e)) (entry_bytes base (entry_at base e.slot))
+  bytes = overwritten e.counters.position (take e.counters.done (put_bytes e)) (entry_bytes base (entry_at base e.slot))
 
   read : IsReadBy e.blocks disk e.entry (numbers_at p.chains e.slot) (numbers_at p.datas e.slot)
   read = middle_read e.blocks base disk e.header e.slot e.entry p bytes u.middle
@@ -126,7 +126,7 @@ module _ (e : Files) (base disk : List ℕ) (s : IsStanding e base disk) (r : Is
   low = u.middle.low
 
   -- goes on to an index block
-  reaching_goes : (rest at : ℕ) → e.done < e.total → rest ≤ target e → target e < length (numbers_at p.chains e.slot)
+  reaching_goes : (rest at : ℕ) → e.counters.done < e.counters.total → rest ≤ target e → target e < length (numbers_at p.chains e.slot)
       → at ≡ slice_index (numbers_at p.chains e.slot) (target e - rest) → (0 < rest → e.reached ≡ 0) → G (going_on (Reach rest at) e)
   reaching_goes rest at left few below here start =
       let b = (read.index (target e - rest) (omega (arith, below))).below in
@@ -150,7 +150,7 @@ module _ (e : Files) (base disk : List ℕ) (s : IsStanding e base disk) (r : Is
         refl,
       )
 
-  reach_to_goes : e.done < e.total → target e < length (numbers_at p.chains e.slot) → e.reached ≢ target e + 1 → G (reach_to e)
+  reach_to_goes : e.counters.done < e.counters.total → target e < length (numbers_at p.chains e.slot) → e.reached ≢ target e + 1 → G (reach_to e)
   reach_to_goes left below other =
       either-way (e.reached == 0) (λ v. (e.reached == 0) ≡ v
       → G (if v then going_on (Reach (target e) e.entry.first) e else going_on (Reach 0 e.index.next) e))
@@ -171,7 +171,7 @@ module _ (e : Files) (base disk : List ℕ) (s : IsStanding e base disk) (r : Is
       above k z = grind (arith, nat_tests)
 
   -- the next bytes go into a data block of the file
-  in_place_goes : e.done < e.total → at_end e ≡ false → G (in_place e)
+  in_place_goes : e.counters.done < e.counters.total → at_end e ≡ false → G (in_place e)
   in_place_goes left inside =
       let q = at_byte e in
       let lt = inside_is e base disk p s u inside in
@@ -213,13 +213,13 @@ module _ (e : Files) (base disk : List ℕ) (s : IsStanding e base disk) (r : Is
       same_test a b z = grind (arith, nat_tests)
 
   -- the next bytes need a new data block
-  appending_goes : e.done < e.total → at_end e ≡ true → G (appending e)
+  appending_goes : e.counters.done < e.counters.total → at_end e ≡ true → G (appending e)
   appending_goes left ends =
       let q = at_byte e in
       let m = u.middle in
       let q_is = where_put e base disk p s u in
       let at = ends_is e ends in
-      let size_end : e.entry.size ≡ e.position + e.done = sym at.0 ∙ q_is in
+      let size_end : e.entry.size ≡ e.counters.position + e.counters.done = sym at.0 ∙ q_is in
       let whole : e.entry.size % 512 ≡ 0 = ap (λ k. k % 512) (sym at.0) ∙ at.1 in
       let next : Bool → Files = λ w. if w then going_on (TakeRead e.header.free_data) e else reach_to e in
       let last : Bool → Files = λ v. if v then end_put e else next ((q == 0) || (e.reached == target e + 1)) in
@@ -302,11 +302,11 @@ module _ (e : Files) (base disk : List ℕ) (s : IsStanding e base disk) (r : Is
   -- The call goes on with the bytes that are left.
   pub next_put_goes : G (next_put e)
   next_put_goes =
-      either-way (nat_le e.total e.done) (λ v. nat_le e.total e.done ≡ v
+      either-way (nat_le e.counters.total e.counters.done) (λ v. nat_le e.counters.total e.counters.done ≡ v
       → G (if v then end_put e else (if at_end e then appending e else in_place e)))
-      (λ _ t. (let ge : e.total ≤ e.done = grind (arith, nat_tests) in let few = u.few in
+      (λ _ t. (let ge : e.counters.total ≤ e.counters.done = grind (arith, nat_tests) in let few = u.few in
       end_put_goes e base disk p s u r.no_index r.no_data r.fresh (inl (omega (arith, ge, few)))))
-      (λ _ t. (let left : e.done < e.total = grind (arith, nat_tests) in
+      (λ _ t. (let left : e.counters.done < e.counters.total = grind (arith, nat_tests) in
       either-way (at_end e) (λ v. at_end e ≡ v → G (if v then appending e else in_place e)) (λ _ a. appending_goes left a) (λ _ a.
       in_place_goes left a) refl))
       refl

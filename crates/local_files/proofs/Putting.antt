@@ -62,31 +62,31 @@ put_small e base disk p s u =
 
 -- where the call is in it
 pub where_put : (e : Files) (base disk : List ℕ) (p : Places) → IsStanding e base disk → (u : IsPutting e base disk p)
-    → at_byte e ≡ e.position + e.done
+    → at_byte e ≡ e.counters.position + e.counters.done
 where_put e base disk p s u =
     let small = put_small e base disk p s u in let within = (put_open e base disk p s u).position in
     let a = u.position in let m = u.most in let f = u.few in omega (arith, small, within, a, m, f)
 
 -- how many bytes there are
 pub puts_long : (e : Files) (base disk : List ℕ) (p : Places) → IsStanding e base disk → (u : IsPutting e base disk p)
-    → length (put_bytes e) ≡ e.total
-puts_long e base disk p s u = let t = length-take e.total e.buffer in let l = s.buffer in let m = u.most in omega (arith, t, l, m)
+    → length (put_bytes e) ≡ e.counters.total
+puts_long e base disk p s u = let t = length-take e.counters.total e.buffer in let l = s.buffer in let m = u.most in omega (arith, t, l, m)
 
 -- how large the file is
 pub put_size : (e : Files) (base disk : List ℕ) (p : Places) → IsStanding e base disk → (u : IsPutting e base disk p)
-    → e.entry.size ≡ e.position + e.done + (u.file.entry.size - (e.position + e.done))
+    → e.entry.size ≡ e.counters.position + e.counters.done + (u.file.entry.size - (e.counters.position + e.counters.done))
 put_size e base disk p s u =
     let o = put_open e base disk p s u in
     let is = put_entry_is e base disk p s u in
     let m = u.middle in
     let sized = middle_sized e.blocks base disk e.header e.slot e.entry p
-    (overwritten e.position (take e.done (put_bytes e)) (entry_bytes base (entry_at base e.slot))) m in
+    (overwritten e.counters.position (take e.counters.done (put_bytes e)) (entry_bytes base (entry_at base e.slot))) m in
     let old = bytes_sized base s.clean e.slot m.slot_is m.was_used in
     let size_is = ap (λ (x : Entry). x.size) is in
     let within = o.position in let a = u.position in
-    let l = length_overwritten e.position (take e.done (put_bytes e)) (entry_bytes base (entry_at base e.slot))
+    let l = length_overwritten e.counters.position (take e.counters.done (put_bytes e)) (entry_bytes base (entry_at base e.slot))
     (omega (arith, within, a, old, size_is)) in
-    let t = length-take e.done (put_bytes e) in let n = puts_long e base disk p s u in let f = u.few in
+    let t = length-take e.counters.done (put_bytes e) in let n = puts_long e base disk p s u in let f = u.few in
     omega (arith, sized, l, t, n, f, old, size_is)
 
 -- The file has room on the disk.
@@ -100,36 +100,36 @@ middle_room n base disk header slot entry p bytes m =
 
 -- as many bytes are put as there is room for
 put_fits : (e : Files) (base disk : List ℕ) (p : Places) → IsStanding e base disk → (u : IsPutting e base disk p)
-    → (e.done ≡ e.total) ⊎ ((e.entry.size ≡ e.position + e.done) × IsFull p e.entry.size)
-    → fitting (seen u.file) (put_bytes e) (system e base) ≡ e.done
+    → (e.counters.done ≡ e.counters.total) ⊎ ((e.entry.size ≡ e.counters.position + e.counters.done) × IsFull p e.entry.size)
+    → fitting (seen u.file) (put_bytes e) (system e base) ≡ e.counters.done
 put_fits e base disk p s u end =
     let o = put_open e base disk p s u in let is = put_entry_is e base disk p s u in let m = u.middle in
     let n = puts_long e base disk p s u in let few = u.few in
     let name : (seen u.file).name ≡ bare_name (entry_at base e.slot).name = ap (λ (x : Entry). bare_name x.name) (sym is) in
     let old = entry_bytes base (entry_at base e.slot) in
     let open_is = open_bytes_is base e.slot (seen u.file) (system e base) s.clean m.slot_is m.was_used refl name in
-    let sized = middle_sized e.blocks base disk e.header e.slot e.entry p (overwritten e.position (take e.done (put_bytes e)) old) m in
-    let size : e.entry.size ≡ length (overwritten u.file.position (take e.done (put_bytes e))
+    let sized = middle_sized e.blocks base disk e.header e.slot e.entry p (overwritten e.counters.position (take e.counters.done (put_bytes e)) old) m in
+    let size : e.entry.size ≡ length (overwritten u.file.position (take e.counters.done (put_bytes e))
     (systems.open_bytes (seen u.file) (system e base))) =
-    sym sized ∙ ap (λ q. length (overwritten q (take e.done (put_bytes e)) old)) u.position
-    ∙ ap (λ b. length (overwritten u.file.position (take e.done (put_bytes e)) b)) (sym open_is) in
+    sym sized ∙ ap (λ q. length (overwritten q (take e.counters.done (put_bytes e)) old)) u.position
+    ∙ ap (λ b. length (overwritten u.file.position (take e.counters.done (put_bytes e)) b)) (sym open_is) in
     let within = o.position in let size_is = ap (λ (x : Entry). x.size) is in
     let a = u.position in
-    fitting_is e.blocks base disk e.header e.slot e.entry p (overwritten e.position (take e.done (put_bytes e)) old) (seen u.file)
-    (system e base) (put_bytes e) e.done m refl refl name
+    fitting_is e.blocks base disk e.header e.slot e.entry p (overwritten e.counters.position (take e.counters.done (put_bytes e)) old) (seen u.file)
+    (system e base) (put_bytes e) e.counters.done m refl refl name
     (omega (arith, within, size_is)) (omega (arith, few, n)) size
-    (⊎_elim (λ (all : e.done ≡ e.total). inl (all ∙ sym n)) (λ (full : (e.entry.size ≡ e.position + e.done) × IsFull p e.entry.size).
-    inr (full.0 ∙ ap (λ q. q + e.done) a, full.1)) end)
+    (⊎_elim (λ (all : e.counters.done ≡ e.counters.total). inl (all ∙ sym n)) (λ (full : (e.entry.size ≡ e.counters.position + e.counters.done) × IsFull p e.entry.size).
+    inr (full.0 ∙ ap (λ q. q + e.counters.done) a, full.1)) end)
 
 -- No more bytes are put.
 pub end_put_goes : (e : Files) (base disk : List ℕ) (p : Places) → IsStanding e base disk → IsPutting e base disk p → p.held_index ≡ []
-    → p.held_data ≡ [] → (e.done ≡ 0 → disk ≡ base)
-    → (e.done ≡ e.total) ⊎ ((e.entry.size ≡ e.position + e.done) × IsFull p e.entry.size)
+    → p.held_data ≡ [] → (e.counters.done ≡ 0 → disk ≡ base)
+    → (e.counters.done ≡ e.counters.total) ⊎ ((e.entry.size ≡ e.counters.position + e.counters.done) × IsFull p e.entry.size)
     → GoesTo (end_put e).phase e.call (call_bytes e) e (end_put e) base disk
 end_put_goes e base disk p s u no_index no_data fresh end =
-    either-way (e.done == 0) (λ v. (e.done == 0) ≡ v → G (if v then answered (negsuc 0) e else e2))
-    (λ _ t. (let z : e.done ≡ 0 = grind (arith, nat_tests) in refused e.call refl u.call z))
-    (λ _ t. (let some : 0 < e.done = above e.done t in (
+    either-way (e.counters.done == 0) (λ v. (e.counters.done == 0) ≡ v → G (if v then answered (negsuc 0) e else e2))
+    (λ _ t. (let z : e.counters.done ≡ 0 = grind (arith, nat_tests) in refused e.call refl u.call z))
+    (λ _ t. (let some : 0 < e.counters.done = above e.counters.done t in (
       record {
         standing = s;
         hand = record {
@@ -155,7 +155,7 @@ end_put_goes e base disk p s u no_index no_data fresh end =
     e2 = record e { phase = Wants EntryRead }
 
     bytes : List ℕ
-    bytes = overwritten e.position (take e.done (put_bytes e)) (entry_bytes base (entry_at base e.slot))
+    bytes = overwritten e.counters.position (take e.counters.done (put_bytes e)) (entry_bytes base (entry_at base e.slot))
 
     used : (rests : List ℕ → Bool) → rests (bare_name (name_in_hand e2 base)) ≡ false → rests (bare_name (entry_at base e.slot).name) ≡ false
     used rests busy = busy_slot e2 base rests u.middle.was_used busy
@@ -163,24 +163,24 @@ end_put_goes e base disk p s u no_index no_data fresh end =
     above : (k : ℕ) → (k == 0) ≡ false → 0 < k
     above k z = grind (arith, nat_tests)
 
-    fits : fitting (seen u.file) (put_bytes e) (system e base) ≡ e.done
+    fits : fitting (seen u.file) (put_bytes e) (system e base) ≡ e.counters.done
     fits = put_fits e base disk p s u end
 
-    refused_stands : e.done ≡ 0 → Stands (answered (negsuc 0) e) disk disk
+    refused_stands : e.counters.done ≡ 0 → Stands (answered (negsuc 0) e) disk disk
     refused_stands z = let D : List ℕ → Type 0 = λ x. Stands (answered (negsuc 0) e) x x in
         subst D (sym (fresh z)) (record {
           standing = at_base s;
           hand = refl;
         })
 
-    same_system : e.done ≡ 0 → system e base ≡ system (answered (negsuc 0) e) disk
+    same_system : e.counters.done ≡ 0 → system e base ≡ system (answered (negsuc 0) e) disk
     same_system z = ap (system e) (sym (fresh z))
 
     held : (d : ℕ) (c : FileCall) → e.call ≡ c → named_device c ≡ Some d → systems.open_at (system e base) d ≡ Some (seen u.file)
     held d c is n = shown_at e.devices d ∙ ap shown (ap (λ j. device_at e (or_none j)) (sym n)
         ∙ ap (λ x. device_at e (device_of x)) (sym is) ∙ u.open_is)
 
-    refused : (c : FileCall) → e.call ≡ c → IsPut c (put_bytes e) → e.done ≡ 0
+    refused : (c : FileCall) → e.call ≡ c → IsPut c (put_bytes e) → e.counters.done ≡ 0
         → GoesTo (Done (negsuc 0)) c (given_bytes c (put_bytes e)) e (answered (negsuc 0) e) base disk
     refused (Write d) is h z =
         let n = puts_long e base disk p s u in let some = u.some in (
@@ -202,7 +202,7 @@ end_put_goes e base disk p s u no_index no_data fresh end =
     refused (Truncate a) is h z = absurd h
     refused (Size a) is h z = absurd h
 
-    written : 0 < e.done → IsWritten e2 base
+    written : 0 < e.counters.done → IsWritten e2 base
     written some = record {
       file = u.file;
       open_is = u.open_is;
@@ -218,7 +218,7 @@ end_put_goes e base disk p s u no_index no_data fresh end =
           ∙ ap (λ (x : Entry). x.name) (put_entry_is e base disk p s u);
     }
 
-    ending : (c : FileCall) → e.call ≡ c → IsPut c (put_bytes e) → 0 < e.done → IsEnding c e2 base
+    ending : (c : FileCall) → e.call ≡ c → IsPut c (put_bytes e) → 0 < e.counters.done → IsEnding c e2 base
     ending (Write d) is h some = written some
     ending (Putc d b) is h some = (written some, h)
     ending (Open a b) is h some = absurd h

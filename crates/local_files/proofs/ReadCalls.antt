@@ -21,7 +21,7 @@ use Rattle.local_files.proofs.Freeing.{some_at, goes_from}
 use Rattle.std.proofs.lemmas.List.{drop_all}
 use Rattle.local_files.specs.Takes.{reading_at}
 use Rattle.xinu_model.specs.Files.Reading.{read_file, getc_file, first_byte, taken, bytes_ahead}
-use Rattle.local_files.proofs.Taking.{reading_file, reading_kept, walking_goes}
+use Rattle.local_files.proofs.Taking.{reading_file, walking_goes}
 use Rattle.local_files.proofs.Taking.{no_bytes}
 use Rattle.local_files.proofs.Standing.{at_base}
 use Rattle.local_files.specs.declared.Purpose.TheVariants.{Walk}
@@ -79,7 +79,6 @@ getc_call d sys = record {
 -- A read begins.
 pub begin_read_goes : (e e' : Files) (call : FileCall) (d n : ℕ) (disk : List ℕ) → IsReadCall call d n (system e disk) → n ≤ 1048576
     → e' ≡ reading_at (device_at e d) n call e → Stands e disk disk → GoesTo e'.phase call [] e e' disk disk
-unfolding reading_kept
 begin_read_goes e e' call d n disk c most new s = subst (λ x.
     GoesTo x.phase call [] e x disk disk) (sym new) (by_device (device_at e d) refl)
   where
@@ -92,7 +91,7 @@ begin_read_goes e e' call d n disk c most new s = subst (λ x.
         let o = device_some e disk disk d f s at in
         let seen_at : systems.open_at sys d ≡ Some (seen f) = shown_at e.devices d ∙ ap shown at in
         let size = open_size disk f s.clean o in
-        let start : Files = record e { call = call; position = f.position; total = min n (f.entry.size - f.position); done = 0 } in
+        let start : Files = record e { call = call; counters = record e.counters { position = f.position; total = min n (f.entry.size - f.position); done = 0 } } in
         let last : Bool → Files = λ w. if w then answered (negsuc 1) e else going_on (Walk (f.position / 8192) f.entry.first) start in
         let mid : Bool → Files = λ v. if v then answered (pos 0) e else last (nat_le f.entry.size f.position) in
         let G : Files → Type 0 = λ x. GoesTo x.phase call [] e x disk disk in
@@ -115,22 +114,17 @@ begin_read_goes e e' call d n disk c most new s = subst (λ x.
         goes : (f : OpenFile) → IsOpenOn disk f → device_at e d ≡ Some f → f.read ≡ true → 0 < n → f.position < f.entry.size
             → GoesTo (going_on (Walk (f.position / 8192) f.entry.first) (record e {
               call = call;
-              position = f.position;
-              total = min n (f.entry.size - f.position);
-              done = 0;
+              counters = record e.counters { position = f.position; total = min n (f.entry.size - f.position); done = 0 };
             })).phase call [] e
             (going_on (Walk (f.position / 8192) f.entry.first) (record e {
               call = call;
-              position = f.position;
-              total = min n (f.entry.size - f.position);
-              done = 0;
+              counters = record e.counters { position = f.position; total = min n (f.entry.size - f.position); done = 0 };
             })) disk disk
         goes f o at r some within =
-            let start : Files = record e { call = call; position = f.position; total = min n (f.entry.size - f.position); done = 0 } in
+            let start : Files = record e { call = call; counters = record e.counters { position = f.position; total = min n (f.entry.size - f.position); done = 0 } } in
             let st : IsStanding start disk disk = at_base s.standing in
             let count = c.count in
-            let reading_is : IsReading start disk disk = record {
-              same = refl;
+            let reading_is : IsReading start disk = record {
               some = omega (arith, some, count);
               few = omega (arith, most, count);
               file = f;

@@ -40,17 +40,17 @@ reply_for c e base = (model.file_effect (call_of c (given_bytes c (put_bytes e))
 
 -- how large the file is once the first k bytes are put
 abbrev size_with : (e : Files) → OpenFile → ℕ → ℕ
-size_with e f k = e.position + k + (f.entry.size - (e.position + k))
+size_with e f k = e.counters.position + k + (f.entry.size - (e.counters.position + k))
 
 -- the first k bytes are put if the blocks that are free and those that are held have room for them
-put_least : (e : Files) (base disk : List ℕ) (p : Places) → IsStanding e base disk → (u : IsPutting e base disk p) → (k : ℕ) → k ≤ e.total
+put_least : (e : Files) (base disk : List ℕ) (p : Places) → IsStanding e base disk → (u : IsPutting e base disk p) → (k : ℕ) → k ≤ e.counters.total
     → data_blocks (size_with e u.file k) ≤ data_blocks e.entry.size + (length p.free_data + length p.held_data)
     → index_blocks (size_with e u.file k) ≤ index_blocks e.entry.size + (length p.free_index + length p.held_index)
     → k ≤ fitting (seen u.file) (put_bytes e) (system e base)
 put_least e base disk p s u k few datas indexes =
     let o = put_open e base disk p s u in let is = put_entry_is e base disk p s u in let m = u.middle in
     let name : (seen u.file).name ≡ bare_name (entry_at base e.slot).name = ap (λ (x : Entry). bare_name x.name) (sym is) in
-    let bytes = overwritten e.position (take e.done (put_bytes e)) (entry_bytes base (entry_at base e.slot)) in
+    let bytes = overwritten e.counters.position (take e.counters.done (put_bytes e)) (entry_bytes base (entry_at base e.slot)) in
     let old = open_bytes (seen u.file) (system e base) in
     let long = open_is base e.slot (seen u.file) (system e base) e.blocks disk e.header e.entry p bytes m refl name in
     let size = ap (λ (x : Entry). x.size) is in let within = o.position in
@@ -90,11 +90,11 @@ granted_put e base disk p u some = by_call e.call refl u.call
     by_call (Size a) is h = absurd h
 
 -- once some bytes are put, there is room for some
-some_put : (e : Files) (base disk : List ℕ) (p : Places) → IsStanding e base disk → (u : IsPutting e base disk p) → 0 < e.done
+some_put : (e : Files) (base disk : List ℕ) (p : Places) → IsStanding e base disk → (u : IsPutting e base disk p) → 0 < e.counters.done
     → 0 < fitting (seen u.file) (put_bytes e) (system e base)
 some_put e base disk p s u some =
     let z = put_size e base disk p s u in
-    let least = put_least e base disk p s u e.done u.few (omega (arith, z)) (omega (arith, z)) in
+    let least = put_least e base disk p s u e.counters.done u.few (omega (arith, z)) (omega (arith, z)) in
     omega (arith, some, least)
 
 -- there is room for one more in a data block of the file
@@ -106,22 +106,22 @@ more_in_place e b base disk s h =
     let within : (at_byte e < e.entry.size) ⊎ (at_byte e % 512 ≢ 0) =
     ⊎_elim (λ (lt : at_byte e < e.entry.size). inl lt)
     (λ (ge : e.entry.size ≤ at_byte e). inr (not_ends e h.inside (omega (arith, ge, z, q)))) (cases_lt (at_byte e) e.entry.size) in
-    let least = put_least e base disk p s u (e.done + 1) (omega (arith, left))
+    let least = put_least e base disk p s u (e.counters.done + 1) (omega (arith, left))
     (⊎_elim (λ (lt : at_byte e < e.entry.size). omega (arith, lt, z, q)) (λ (n : at_byte e % 512 ≢ 0). omega (arith, n, z, q)) within)
     (⊎_elim (λ (lt : at_byte e < e.entry.size). omega (arith, lt, z, q)) (λ (n : at_byte e % 512 ≢ 0). omega (arith, n, z, q)) within) in
     omega (arith, least)
 
 -- there is room for one more if a data block is held, and an index block is there if one is needed
-more_at_end : (e : Files) (base disk : List ℕ) (p : Places) → IsStanding e base disk → (u : IsPutting e base disk p) → e.done < e.total
+more_at_end : (e : Files) (base disk : List ℕ) (p : Places) → IsStanding e base disk → (u : IsPutting e base disk p) → e.counters.done < e.counters.total
     → at_end e ≡ true → 1 ≤ length p.held_data
     → (at_byte e % 8192 ≡ 0 → 1 ≤ length p.free_index + length p.held_index)
     → 0 < fitting (seen u.file) (put_bytes e) (system e base)
 more_at_end e base disk p s u left ends held index =
     let z = put_size e base disk p s u in let q = where_put e base disk p s u in
     let at = ends_is e ends in let same = at.0 in let whole = at.1 in
-    let least = put_least e base disk p s u (e.done + 1) (omega (arith, left)) (omega (arith, z, q, same, whole, held))
+    let least = put_least e base disk p s u (e.counters.done + 1) (omega (arith, left)) (omega (arith, z, q, same, whole, held))
     (either-way (at_byte e % 8192 == 0) (λ v. (at_byte e % 8192 == 0) ≡ v
-    → index_blocks (size_with e u.file (e.done + 1)) ≤ index_blocks e.entry.size + (length p.free_index + length p.held_index))
+    → index_blocks (size_with e u.file (e.counters.done + 1)) ≤ index_blocks e.entry.size + (length p.free_index + length p.held_index))
     (λ _ t. (let first : at_byte e % 8192 ≡ 0 = grind (arith, nat_tests) in let one = index first in
     omega (arith, z, q, same, first, one)))
     (λ _ t. (let inner : at_byte e % 8192 ≢ 0 = grind (arith, nat_tests) in omega (arith, z, q, same, inner)))
@@ -135,7 +135,7 @@ more_taken e b base disk s t =
     let p = t.places in let held = ap length t.held in
     more_at_end e base disk p s t.putting t.left t.ends (omega (arith, held)) (λ z. (
     let free = ap length (free_index_some e.blocks base disk e.header e.slot e.entry p
-    (overwritten e.position (take e.done (put_bytes e)) (entry_bytes base (entry_at base e.slot))) t.putting.middle (t.index z)) in
+    (overwritten e.counters.position (take e.counters.done (put_bytes e)) (entry_bytes base (entry_at base e.slot))) t.putting.middle (t.index z)) in
     omega (arith, free)))
 
 -- and once an index block is taken besides
@@ -207,9 +207,9 @@ module _ (e : Files) (base disk : List ℕ) (s : Stands e base disk) where
   -- a call that puts bytes, and has put none
   not_put : WillBeRefused e base → IsReady e base disk → disk ≡ base
   not_put refused r = ⊎_elim
-      (λ (none : e.done < 1). r.fresh (omega (arith, none)))
-      (λ (some : 1 ≤ e.done). absurd (granted_put e base disk r.places r.putting (some_put e base disk r.places st r.putting some) refused))
-      (cases_lt e.done 1)
+      (λ (none : e.counters.done < 1). r.fresh (omega (arith, none)))
+      (λ (some : 1 ≤ e.counters.done). absurd (granted_put e base disk r.places r.putting (some_put e base disk r.places st r.putting some) refused))
+      (cases_lt e.counters.done 1)
 
   -- it has taken a block
   taken : {P : Type 0} → (b : ℕ) → IsTaken e b base disk → WillBeRefused e base → P
@@ -223,8 +223,8 @@ module _ (e : Files) (base disk : List ℕ) (s : Stands e base disk) where
   in_phase refused Idle h = (h, h)
   in_phase refused (Done r) h = (h, h)
   in_phase refused (Wants (Search d)) h = (h.same, h.same)
-  in_phase refused (Wants (Walk rest at)) h = (h.reading.same, h.reading.same)
-  in_phase refused (Wants (Fetch b)) h = (h.reading.same, h.reading.same)
+  in_phase refused (Wants (Walk rest at)) h = (h.same, h.same)
+  in_phase refused (Wants (Fetch b)) h = (h.same, h.same)
   in_phase refused (Wants Counts) h = (h.same, h.same)
   in_phase refused (Wants (Reach rest at)) h = let same = not_put refused h.ready in (same, same)
   in_phase refused (Wants (PatchRead b)) h = let same = not_put refused h.ready in (same, same)

@@ -111,9 +111,7 @@ begin_put_goes e e' call d bytes disk c few nothing new s = subst P (sym new) (b
     begun : OpenFile → Files
     begun f = record (held_file f call e) {
       buffer = put_at 0 bytes e.buffer;
-      position = f.position;
-      total = length bytes;
-      done = 0;
+      counters = record e.counters { position = f.position; total = length bytes; done = 0 };
       reached = 0;
     }
 

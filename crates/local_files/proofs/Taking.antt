@@ -1,5 +1,5 @@
 -- `read` and `getc`: what they find, block by block.
-use Rattle.std.proofs.Common.{◌≡◌, ℕ, zero, suc, ◌+◌, ◌*◌, ◌/◌, ◌<◌, ◌≤◌, Bool, true, cond, List, [], ◌∷◌, length, refl, sym, ap, ◌∙◌, subst, arith, slice_index_or, Option, Some, None, negsuc, if◌then◌else◌, slice_index, ◌%◌, take, nat_lt, ◌++◌, ◌-◌, drop, min, pos, ⊎_elim}
+use Rattle.std.proofs.Common.{◌≡◌, ℕ, zero, suc, ◌+◌, ◌*◌, ◌/◌, ◌<◌, ◌≤◌, Bool, true, cond, List, [], ◌∷◌, length, refl, sym, ap, ◌∙◌, subst, arith, slice_index_or, Option, Some, negsuc, if◌then◌else◌, slice_index, ◌%◌, take, nat_lt, ◌++◌, ◌-◌, drop, min, pos, ⊎_elim}
 use Rattle.std.proofs.lemmas.Bool.Decides.{nat_tests}
 use Rattle.lfs_format.specs.declared.Entry.{Entry}
 use Rattle.lfs_check.specs.Rules.{entry_is_used, block_in}
@@ -64,7 +64,7 @@ pub open_of : (base : List ℕ) (x : Option OpenFile) (f : OpenFile) → x ≡ S
 open_of base x f is h = let P : Option OpenFile → Type 0 = λ y. IsDevice base y in subst P is h
 
 -- the file that is read
-pub reading_file : (e : Files) (base : List ℕ) → IsStanding e base base → (r : IsReading e base base)
+pub reading_file : (e : Files) (base : List ℕ) → IsStanding e base base → (r : IsReading e base)
     → IsReadBy e.blocks base r.file.entry (entry_chain base r.file.entry) (entry_data base r.file.entry)
 reading_file e base s r =
     let o = open_of base (device_at e (device_of e.call)) r.file r.open_is (s.device (device_of e.call)) in
@@ -72,27 +72,8 @@ reading_file e base s r =
     let P : ℕ → Type 0 = λ n. IsReadBy n base r.file.entry (entry_chain base r.file.entry) (entry_data base r.file.entry) in
     subst P (let q : length base / 512 ≡ e.blocks = omega (arith, b) in q) (open_read base r.file s.clean o)
 
--- a read with other fields of the engine
-unfoldable pub reading_kept : (e e2 : Files) (base disk : List ℕ) → e2.call ≡ e.call → e2.devices ≡ e.devices → e2.position ≡ e.position
-    → e2.total ≡ e.total → e2.done ≡ e.done → e2.buffer ≡ e.buffer → IsReading e base disk → IsReading e2 base disk
-reading_kept e e2 base disk c d p t n b r = record {
-  same = r.same;
-  some = (let x = r.some in let q = ap read_count c in omega (arith, x, q));
-  few = (let x = r.few in let q = ap read_count c in omega (arith, x, q));
-  file = r.file;
-  open_is = ap (λ k. slice_index_or e2.devices (device_of k) None) c ∙ ap (λ ds. slice_index_or ds (device_of e.call) None) d ∙ r.open_is;
-  reads = r.reads;
-  position = p ∙ r.position;
-  within = r.within;
-  total = t ∙ r.total
-      ∙ ap (λ k. min (read_count k) (r.file.entry.size - r.file.position)) (sym c);
-  left = (let x = r.left in omega (arith, x, t, n));
-  taken = ap (λ k. take k e2.buffer) n ∙ ap (take e.done) b ∙ r.taken
-      ∙ ap (λ k. take k (drop r.file.position (entry_bytes base r.file.entry))) (sym n);
-}
-
 -- where the read is in the file
-pub where_is : (e : Files) (base : List ℕ) → IsStanding e base base → (r : IsReading e base base) → at_byte e ≡ r.file.position + e.done
+pub where_is : (e : Files) (base : List ℕ) → IsStanding e base base → (r : IsReading e base) → at_byte e ≡ r.file.position + e.counters.done
 where_is e base s r =
     let o = open_of base (device_at e (device_of e.call)) r.file r.open_is (s.device (device_of e.call)) in
     let small : r.file.entry.size ≤ 33557504 = (let P : Entry → Type 0 = λ x. x.size ≤ 33557504 in
@@ -107,15 +88,14 @@ blocks_low e base s =
     omega (arith, low, b)
 
 -- Goes on to an index block.
-pub walking_goes : (e : Files) (rest at : ℕ) (base : List ℕ) → IsStanding e base base → (r : IsReading e base base)
-    → rest ≤ (r.file.position + e.done) / 8192
-    → at ≡ slice_index (entry_chain base r.file.entry) ((r.file.position + e.done) / 8192 - rest)
+pub walking_goes : (e : Files) (rest at : ℕ) (base : List ℕ) → IsStanding e base base → (r : IsReading e base)
+    → rest ≤ (r.file.position + e.counters.done) / 8192
+    → at ≡ slice_index (entry_chain base r.file.entry) ((r.file.position + e.counters.done) / 8192 - rest)
     → GoesTo (going_on (Walk rest at) e).phase e.call (call_bytes e) e (going_on (Walk rest at) e) base base
-unfolding reading_kept
 walking_goes e rest at base s r few here =
     let f = reading_file e base s r in let low = (blocks_low e base s) in
     let t = r.total in let l = r.left in let w = r.within in let cl = f.chain_long in
-    let below = (f.index ((r.file.position + e.done) / 8192 - rest) (omega (arith, t, l, w, cl))).below in
+    let below = (f.index ((r.file.position + e.counters.done) / 8192 - rest) (omega (arith, t, l, w, cl))).below in
     let on : nat_lt (6 + at / 7) e.blocks ≡ true = ap (λ k. nat_lt (6 + k / 7) e.blocks) here ∙ index_on_disk e.blocks _ low below in
     let e2 : Files = record e { phase = Wants (Walk rest at) } in
     let P : Bool → Type 0 = λ v. GoesTo (if v then e2 else answered (negsuc 0) e).phase e.call (call_bytes e) e
@@ -123,7 +103,7 @@ walking_goes e rest at base s r few here =
     subst P (sym on) (
       record {
         standing = s;
-        hand = record { reading = reading_kept e e2 base base refl refl refl refl refl refl r; few = few; here = here };
+        hand = record { same = refl; reading = r; few = few; here = here };
       },
       refl,
       refl,
@@ -131,15 +111,14 @@ walking_goes e rest at base s r few here =
     )
 
 -- Goes on to a data block.
-pub fetching_goes : (e : Files) (b : ℕ) (base : List ℕ) → IsStanding e base base → (r : IsReading e base base)
-    → e.index ≡ index_for ((r.file.position + e.done) / 8192) (entry_chain base r.file.entry) (entry_data base r.file.entry)
-    → b ≡ slice_index (entry_data base r.file.entry) ((r.file.position + e.done) / 512)
+pub fetching_goes : (e : Files) (b : ℕ) (base : List ℕ) → IsStanding e base base → (r : IsReading e base)
+    → e.index ≡ index_for ((r.file.position + e.counters.done) / 8192) (entry_chain base r.file.entry) (entry_data base r.file.entry)
+    → b ≡ slice_index (entry_data base r.file.entry) ((r.file.position + e.counters.done) / 512)
     → GoesTo (going_on (Fetch b) e).phase e.call (call_bytes e) e (going_on (Fetch b) e) base base
-unfolding reading_kept
 fetching_goes e b base s r index here =
     let f = reading_file e base s r in
     let t = r.total in let l = r.left in let w = r.within in let bl = f.blocks_long in
-    let high = (f.block ((r.file.position + e.done) / 512) (omega (arith, t, l, w, bl))).1 in
+    let high = (f.block ((r.file.position + e.counters.done) / 512) (omega (arith, t, l, w, bl))).1 in
     let on : nat_lt b e.blocks ≡ true = (let q : b < e.blocks = omega (arith, here, high) in grind (arith, nat_tests)) in
     let e2 : Files = record e { phase = Wants (Fetch b) } in
     let P : Bool → Type 0 = λ v. GoesTo (if v then e2 else answered (negsuc 0) e).phase e.call (call_bytes e) e
@@ -148,7 +127,8 @@ fetching_goes e b base s r index here =
       record {
         standing = s;
         hand = record {
-          reading = reading_kept e e2 base base refl refl refl refl refl refl r;
+          same = refl;
+          reading = r;
           index = index;
           here = here;
         };
@@ -170,30 +150,17 @@ block_of e base q chain blocks index h =
 pub walked_goes : (e e' : Files) (rest at : ℕ) (base disk read : List ℕ) → e.phase ≡ Wants (Walk rest at)
     → e' ≡ walked rest (index_at (at % 7) read) e → Stands e base disk → read ≡ block_in disk (6 + at / 7)
     → GoesTo e'.phase e.call (call_bytes e) e e' base disk
-unfolding reading_kept
 walked_goes e e' rest at base disk read phase new s honest =
     let P : Files → Type 0 = λ x. GoesTo x.phase e.call (call_bytes e) e x base disk in
     let D : List ℕ → Type 0 = λ y. GoesTo (walked rest (index_at (at % 7) read) e).phase e.call (call_bytes e) e
     (walked rest (index_at (at % 7) read) e) base y in
-    subst P (sym new) (subst D (sym w.reading.same) (by_rest rest refl))
+    subst P (sym new) (subst D (sym w.same) (by_rest rest refl))
   where
     w : IsWalking e rest at base disk
     w = let H : Phase → Type 0 = λ p. InHand p e base disk in subst H phase s.hand
 
-    r : IsReading e base base
-    r = record {
-      same = refl;
-      some = w.reading.some;
-      few = w.reading.few;
-      file = w.reading.file;
-      open_is = w.reading.open_is;
-      reads = w.reading.reads;
-      position = w.reading.position;
-      within = w.reading.within;
-      total = w.reading.total;
-      left = w.reading.left;
-      taken = w.reading.taken;
-    }
+    r : IsReading e base
+    r = w.reading
 
     st : IsStanding e base base
     st = at_base s.standing
@@ -202,13 +169,13 @@ walked_goes e e' rest at base disk read phase new s honest =
     f = reading_file e base st r
 
     q : ℕ
-    q = r.file.position + e.done
+    q = r.file.position + e.counters.done
 
     inside : q / 8192 < length (entry_chain base r.file.entry)
     inside = let t = r.total in let l = r.left in let v = r.within in let cl = f.chain_long in omega (arith, t, l, v, cl)
 
     index_is : index_at (at % 7) read ≡ index_for (q / 8192 - rest) (entry_chain base r.file.entry) (entry_data base r.file.entry)
-    index_is = let lt = inside in ap (index_at (at % 7)) (honest ∙ ap (λ x. block_in x (6 + at / 7)) w.reading.same)
+    index_is = let lt = inside in ap (index_at (at % 7)) (honest ∙ ap (λ x. block_in x (6 + at / 7)) w.same)
         ∙ ap (λ k. index_at (k % 7) (block_in base (6 + k / 7))) w.here ∙ (f.index (q / 8192 - rest) (omega (arith, lt))).read
 
     e2 : Files
@@ -217,8 +184,8 @@ walked_goes e e' rest at base disk read phase new s honest =
     st2 : IsStanding e2 base base
     st2 = at_base s.standing
 
-    r2 : IsReading e2 base base
-    r2 = reading_kept e e2 base base refl refl refl refl refl refl r
+    r2 : IsReading e2 base
+    r2 = r
 
     by_rest : (k : ℕ) → rest ≡ k → GoesTo (walked k (index_at (at % 7) read) e).phase e.call (call_bytes e) e
         (walked k (index_at (at % 7) read) e) base base

@@ -14,11 +14,11 @@ use Rattle.local_files.specs.declared.Files.{Files}
 
 -- how many data blocks of the file have bytes of the call that are left
 abbrev pub blocks_left : Files → ℕ
-blocks_left e = data_blocks (e.position + e.total) - (e.position + e.done) / 512
+blocks_left e = data_blocks (e.counters.position + e.counters.total) - (e.counters.position + e.counters.done) / 512
 
 -- how many of its index blocks name them
 abbrev pub indexes_left : Files → ℕ
-indexes_left e = index_blocks (e.position + e.total) - (e.position + e.done) / 8192
+indexes_left e = index_blocks (e.counters.position + e.counters.total) - (e.counters.position + e.counters.done) / 8192
 
 -- a read: each of these is read once
 abbrev pub read_left : Files → ℕ
@@ -39,7 +39,7 @@ left_for (Search d) e base = (6 - d) + cut_left (size_for (call_of e.call []) (s
 left_for (Walk rest at) e base = rest + 1 + read_left e
 left_for (Fetch b) e base = read_left e
 left_for Counts e base =
-    if is_truncate e.call then 1 + cut_left (entry_at base e.slot).size 0 0 else e.position / 8192 + 8 + put_left e
+    if is_truncate e.call then 1 + cut_left (entry_at base e.slot).size 0 0 else e.counters.position / 8192 + 8 + put_left e
 left_for (Reach rest at) e base = rest + 7 + put_left e
 left_for (PatchRead b) e base = 2 + put_left e
 left_for (PatchWrite b) e base = 1 + put_left e

@@ -1,5 +1,5 @@
 -- What is so while a call waits for a block.
-use Rattle.std.specs.Prelude.{ℕ, ◌≡◌, ◌≢◌, ◌+◌, ◌-◌, ◌*◌, ◌/◌, ◌%◌, ◌<◌, ◌≤◌, true, false, nat_le, min, if◌then◌else◌, Bool, List, [], ◌∷◌, length, map, take, drop, Option, Some, None, slice_index}
+use Rattle.std.specs.Prelude.{ℕ, ◌≡◌, ◌≢◌, ◌+◌, ◌-◌, ◌*◌, ◌/◌, ◌%◌, ◌<◌, ◌≤◌, true, false, nat_le, min, if◌then◌else◌, Bool, List, [], ◌∷◌, length, map, take, drop, Option, Some, None, slice_index, slice_index_or}
 use Rattle.lfs_format.specs.Indexes.{IsIndexPut}
 use Rattle.lfs_format.specs.Directory.{dir_of, IsDirBlock}
 use Rattle.lfs_check.specs.Meets.{null}
@@ -21,6 +21,7 @@ use Rattle.xinu_base.specs.declared.files.OpenMode.{OpenMode}
 use Rattle.local_files.specs.declared.OpenFile.{OpenFile}
 use Rattle.local_files.specs.declared.FileCall.{FileCall}
 use Rattle.local_files.specs.declared.FileCall.TheVariants.{Open, Delete, Read, Write, Getc, Putc, Truncate}
+use Rattle.local_files.specs.declared.Counters.{Counters}
 use Rattle.local_files.specs.declared.Files.{Files}
 
 -- what the abstract machine sees of the engine, over the disk as it was when the call in hand began
@@ -42,7 +43,7 @@ name_of _ = []
 
 -- the bytes that the call in hand puts
 abbrev pub put_bytes : Files → List ℕ
-put_bytes e = take e.total e.buffer
+put_bytes e = take e.counters.total e.buffer
 
 -- what the abstract machine has for an open file
 abbrev pub seen : OpenFile → systems.OpenFile
@@ -97,31 +98,36 @@ read_count (Getc d) = 1
 read_count _ = 0
 
 -- a read of an open file, which has more bytes at its position
-pub record IsReading (e : Files) (base disk : List ℕ) : Type 0 where
-  pub same : disk ≡ base
-  pub some : 0 < read_count e.call
-  pub few : read_count e.call ≤ 1048576
+pub record IsReadingBy (call : FileCall) (devices : List (Option OpenFile)) (counters : Counters) (buffer base : List ℕ) : Type 0 where
+  pub some : 0 < read_count call
+  pub few : read_count call ≤ 1048576
   pub file : OpenFile
-  pub open_is : device_at e (device_of e.call) ≡ Some file
+  pub open_is : slice_index_or devices (device_of call) None ≡ Some file
   pub reads : file.read ≡ true
-  pub position : e.position ≡ file.position
+  pub position : counters.position ≡ file.position
   pub within : file.position < file.entry.size
-  pub total : e.total ≡ min (read_count e.call) (file.entry.size - file.position)
-  pub left : e.done < e.total
-  pub taken : take e.done e.buffer ≡ take e.done (drop file.position (entry_bytes base file.entry))
+  pub total : counters.total ≡ min (read_count call) (file.entry.size - file.position)
+  pub left : counters.done < counters.total
+  pub taken : take counters.done buffer ≡ take counters.done (drop file.position (entry_bytes base file.entry))
+
+-- the same of the engine
+abbrev pub IsReading : Files → List ℕ → Type 0
+IsReading e base = IsReadingBy e.call e.devices e.counters e.buffer base
 
 -- it waits for an index block of the file, after which so many come to that of the position
 pub record IsWalking (e : Files) (rest at : ℕ) (base disk : List ℕ) : Type 0 where
-  pub reading : IsReading e base disk
-  pub few : rest ≤ (reading.file.position + e.done) / 8192
-  pub here : at ≡ slice_index (entry_chain base reading.file.entry) ((reading.file.position + e.done) / 8192 - rest)
+  pub same : disk ≡ base
+  pub reading : IsReading e base
+  pub few : rest ≤ (reading.file.position + e.counters.done) / 8192
+  pub here : at ≡ slice_index (entry_chain base reading.file.entry) ((reading.file.position + e.counters.done) / 8192 - rest)
 
 -- it waits for the data block of the position
 pub record IsFetching (e : Files) (b : ℕ) (base disk : List ℕ) : Type 0 where
-  pub reading : IsReading e base disk
-  pub index : e.index ≡ index_for ((reading.file.position + e.done) / 8192) (entry_chain base reading.file.entry)
+  pub same : disk ≡ base
+  pub reading : IsReading e base
+  pub index : e.index ≡ index_for ((reading.file.position + e.counters.done) / 8192) (entry_chain base reading.file.entry)
       (entry_data base reading.file.entry)
-  pub here : b ≡ slice_index (entry_data base reading.file.entry) ((reading.file.position + e.done) / 512)
+  pub here : b ≡ slice_index (entry_data base reading.file.entry) ((reading.file.position + e.counters.done) / 512)
 
 -- The end of a call that writes the directory.
 
@@ -150,12 +156,12 @@ pub record IsWritten (e : Files) (base : List ℕ) : Type 0 where
   pub open_is : device_at e (device_of e.call) ≡ Some file
   pub writes : file.write ≡ true
   pub slot : e.slot ≡ file.slot
-  pub position : e.position ≡ file.position
-  pub some : 0 < e.done
-  pub few : e.done ≤ e.total
-  pub most : e.total ≤ 1048576
-  pub fits : fitting (seen file) (put_bytes e) (system e base) ≡ e.done
-  pub size : file.position + e.done ≤ e.entry.size
+  pub position : e.counters.position ≡ file.position
+  pub some : 0 < e.counters.done
+  pub few : e.counters.done ≤ e.counters.total
+  pub most : e.counters.total ≤ 1048576
+  pub fits : fitting (seen file) (put_bytes e) (system e base) ≡ e.counters.done
+  pub size : file.position + e.counters.done ≤ e.entry.size
   pub named : e.entry.name ≡ file.entry.name
 
 -- a file that a device has open is emptied
@@ -179,7 +185,7 @@ IsEnding _ e base = ⊥
 abbrev pub put_files : Files → List ℕ → List StoredFile
 put_files e base =
     with_contents (bare_name (entry_at base e.slot).name)
-    (overwritten e.position (take e.done (put_bytes e)) (entry_bytes base (entry_at base e.slot))) (stored_files base)
+    (overwritten e.counters.position (take e.counters.done (put_bytes e)) (entry_bytes base (entry_at base e.slot))) (stored_files base)
 
 -- the files after it
 abbrev pub files_after : FileCall → Files → List ℕ → List StoredFile

@@ -84,7 +84,7 @@ searching_on d e = if nat_lt d 5 then record e { phase = Wants (Search (d + 1)) 
 abbrev pub ended_at : Option ℕ → Files → Files
 ended_at None e = answered (pos 0) e
 ended_at (Some d) e =
-    answered (if is_write e.call then counted e.done else pos 0) (kept_at (device_at e d) d (if is_truncate e.call then 0 else at_byte e) e)
+    answered (if is_write e.call then counted e.counters.done else pos 0) (kept_at (device_at e d) d (if is_truncate e.call then 0 else at_byte e) e)
 
 -- a call that wrote the directory is done
 abbrev pub ended : FileCall → Files → Files

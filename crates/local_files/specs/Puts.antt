@@ -5,7 +5,7 @@ use Rattle.lfs_format.specs.declared.Dir.{Dir}
 use Rattle.lfs_check.specs.Fields.{header_2}
 use Rattle.lfs_check.specs.Meets.{null}
 use Rattle.local_files.specs.Buffers.{put_at, patched}
-use Rattle.local_files.specs.Steps.{answered, at_byte, piece, is_truncate, going_on}
+use Rattle.local_files.specs.Steps.{answered, at_byte, piece, is_truncate, going_on, done_more}
 use Rattle.local_files.specs.Cuts.{cutting, held_file}
 use Rattle.local_files.specs.declared.OpenFile.{OpenFile}
 use Rattle.local_files.specs.declared.FileCall.{FileCall}
@@ -20,9 +20,7 @@ writing f bytes call e =
     else (if length bytes == 0 then answered (pos 0) e
     else record (held_file f call e) {
       buffer = put_at 0 bytes e.buffer;
-      position = f.position;
-      total = length bytes;
-      done = 0;
+      counters = record e.counters { position = f.position; total = length bytes; done = 0 };
       reached = 0;
     })
 
@@ -33,7 +31,7 @@ writing_at (Some f) bytes call e = writing f bytes call e
 
 -- no more bytes are put: refused if there are none
 abbrev pub end_put : Files → Files
-end_put e = if e.done == 0 then answered (negsuc 0) e else record e { phase = Wants EntryRead }
+end_put e = if e.counters.done == 0 then answered (negsuc 0) e else record e { phase = Wants EntryRead }
 
 -- whether the next bytes need a new data block
 abbrev pub at_end : Files → Bool
@@ -59,7 +57,7 @@ in_place e = if e.reached == target e + 1 then going_on (PatchRead (slice_index 
 
 -- goes on with the bytes that are left
 abbrev pub next_put : Files → Files
-next_put e = if nat_le e.total e.done then end_put e else (if at_end e then appending e else in_place e)
+next_put e = if nat_le e.counters.total e.counters.done then end_put e else (if at_end e then appending e else in_place e)
 
 -- the counts were read
 abbrev pub counts_read : Dir → Files → Files
@@ -73,18 +71,18 @@ reached (suc rest) at index e = going_on (Reach rest index.next) (record e { ind
 
 -- a data block of the file was read
 abbrev pub patch_read : ℕ → List ℕ → Files → Files
-patch_read b block e = record e { block = patched e.done (piece e) (at_byte e % 512) e.buffer block; phase = Wants (PatchWrite b) }
+patch_read b block e = record e { block = patched e.counters.done (piece e) (at_byte e % 512) e.buffer block; phase = Wants (PatchWrite b) }
 
 -- the bytes are on the disk
 abbrev pub put_done : Files → Files
-put_done e = let d : Files = record e { done = (e.done + piece e) % 4294967296 } in
+put_done e = let d : Files = record e { counters = done_more e } in
     record d { entry = record e.entry { size = max e.entry.size (at_byte d) } }
 
 -- a free data block was read
 abbrev pub take_read : ℕ → ℕ → Files → Files
 take_read b next e = record e {
   header = record e.header { free_data = next };
-  block = patched e.done (piece e) 0 e.buffer (replicate 512 0);
+  block = patched e.counters.done (piece e) 0 e.buffer (replicate 512 0);
   phase = Wants (TakeWrite b);
 }
 

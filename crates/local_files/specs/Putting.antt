@@ -30,13 +30,13 @@ pub record IsPutting (e : Files) (base disk : List ℕ) (p : Places) : Type 0 wh
   pub open_is : device_at e (device_of e.call) ≡ Some file
   pub writes : file.write ≡ true
   pub slot : e.slot ≡ file.slot
-  pub position : e.position ≡ file.position
-  pub most : e.total ≤ 1048576
-  pub few : e.done ≤ e.total
-  pub some : 0 < e.total
+  pub position : e.counters.position ≡ file.position
+  pub most : e.counters.total ≤ 1048576
+  pub few : e.counters.done ≤ e.counters.total
+  pub some : 0 < e.counters.total
   pub files : e.header.files ≡ (header_on base).files
   pub middle : IsMiddle e.blocks base disk e.header e.slot e.entry p
-      (overwritten e.position (take e.done (put_bytes e)) (entry_bytes base (entry_at base e.slot)))
+      (overwritten e.counters.position (take e.counters.done (put_bytes e)) (entry_bytes base (entry_at base e.slot)))
 
 -- it has come to an index block of the file
 pub record IsAt (e : Files) (p : Places) : Type 0 where
@@ -50,14 +50,14 @@ pub record IsReady (e : Files) (base disk : List ℕ) : Type 0 where
   pub putting : IsPutting e base disk places
   pub no_index : places.held_index ≡ []
   pub no_data : places.held_data ≡ []
-  pub fresh : e.done ≡ 0 → disk ≡ base
+  pub fresh : e.counters.done ≡ 0 → disk ≡ base
   pub cursor : IsAt e places
   pub near : 0 < e.reached → (e.reached ≤ target e + 1) × (target e ≤ e.reached)
 
 -- it waits for an index block, after which so many come to that of the next bytes
 pub record IsReach (e : Files) (rest at : ℕ) (base disk : List ℕ) : Type 0 where
   pub ready : IsReady e base disk
-  pub left : e.done < e.total
+  pub left : e.counters.done < e.counters.total
   pub few : rest ≤ target e
   pub below : target e < length (numbers_at ready.places.chains e.slot)
   pub start : 0 < rest → e.reached ≡ 0
@@ -66,7 +66,7 @@ pub record IsReach (e : Files) (rest at : ℕ) (base disk : List ℕ) : Type 0 w
 -- it waits for the data block of the next bytes
 pub record IsPatch (e : Files) (b : ℕ) (base disk : List ℕ) : Type 0 where
   pub ready : IsReady e base disk
-  pub left : e.done < e.total
+  pub left : e.counters.done < e.counters.total
   pub reached : e.reached ≡ target e + 1
   pub inside : at_end e ≡ false
   pub here : b ≡ slice_index (numbers_at ready.places.datas e.slot) (at_byte e / 512)
@@ -74,12 +74,12 @@ pub record IsPatch (e : Files) (b : ℕ) (base disk : List ℕ) : Type 0 where
 -- the data block is to be written with the bytes
 pub record IsPatched (e : Files) (b : ℕ) (base disk : List ℕ) : Type 0 where
   pub patch : IsPatch e b base disk
-  pub block : e.block ≡ patched e.done (piece e) (at_byte e % 512) e.buffer (block_in disk b)
+  pub block : e.block ≡ patched e.counters.done (piece e) (at_byte e % 512) e.buffer (block_in disk b)
 
 -- the next bytes need a new data block, and an index block if they are the first of one
 pub record IsTake (e : Files) (b : ℕ) (base disk : List ℕ) : Type 0 where
   pub ready : IsReady e base disk
-  pub left : e.done < e.total
+  pub left : e.counters.done < e.counters.total
   pub ends : at_end e ≡ true
   pub reached : 0 < at_byte e → e.reached ≡ target e + 1
   pub head : e.header.free_data ≡ b
@@ -90,7 +90,7 @@ pub record IsTake (e : Files) (b : ℕ) (base disk : List ℕ) : Type 0 where
 pub record IsTaken (e : Files) (b : ℕ) (base disk : List ℕ) : Type 0 where
   pub places : Places
   pub putting : IsPutting e base disk places
-  pub left : e.done < e.total
+  pub left : e.counters.done < e.counters.total
   pub no_index : places.held_index ≡ []
   pub held : places.held_data ≡ b ∷ []
   pub ends : at_end e ≡ true
@@ -101,12 +101,12 @@ pub record IsTaken (e : Files) (b : ℕ) (base disk : List ℕ) : Type 0 where
 -- it is to be written with the bytes
 pub record IsTakeWrite (e : Files) (b : ℕ) (base disk : List ℕ) : Type 0 where
   pub taken : IsTaken e b base disk
-  pub block : e.block ≡ patched e.done (piece e) 0 e.buffer (replicate 512 0)
+  pub block : e.block ≡ patched e.counters.done (piece e) 0 e.buffer (replicate 512 0)
 
 -- it has the bytes
 pub record IsFilled (e : Files) (b : ℕ) (base disk : List ℕ) : Type 0 where
   pub taken : IsTaken e b base disk
-  pub filled : take (piece e) (block_in disk b) ≡ take (piece e) (drop e.done e.buffer)
+  pub filled : take (piece e) (block_in disk b) ≡ take (piece e) (drop e.counters.done e.buffer)
 
 -- the last index block is to be written with its number
 pub record IsAddWrite (e : Files) (b : ℕ) (base disk : List ℕ) : Type 0 where
@@ -118,14 +118,14 @@ pub record IsAddWrite (e : Files) (b : ℕ) (base disk : List ℕ) : Type 0 wher
 pub record IsNew (e : Files) (b i : ℕ) (base disk : List ℕ) : Type 0 where
   pub places : Places
   pub putting : IsPutting e base disk places
-  pub left : e.done < e.total
+  pub left : e.counters.done < e.counters.total
   pub held_index : places.held_index ≡ i ∷ []
   pub held_data : places.held_data ≡ b ∷ []
   pub ends : at_end e ≡ true
   pub cursor : IsAt e places
   pub reached : 0 < at_byte e → e.reached ≡ target e + 1
   pub whole : at_byte e % 8192 ≡ 0
-  pub filled : take (piece e) (block_in disk b) ≡ take (piece e) (drop e.done e.buffer)
+  pub filled : take (piece e) (block_in disk b) ≡ take (piece e) (drop e.counters.done e.buffer)
 
 -- it is to be written with the number
 pub record IsNewWrite (e : Files) (b i : ℕ) (base disk : List ℕ) : Type 0 where
@@ -147,10 +147,10 @@ pub record IsLinkWrite (e : Files) (b i : ℕ) (base disk : List ℕ) : Type 0 w
 -- a call that puts bytes begins
 pub record IsBegun (e : Files) (file : OpenFile) : Type 0 where
   pub call : IsPut e.call (put_bytes e)
-  pub position : e.position ≡ file.position
-  pub most : e.total ≤ 1048576
-  pub some : 0 < e.total
-  pub none : e.done ≡ 0
+  pub position : e.counters.position ≡ file.position
+  pub most : e.counters.total ≤ 1048576
+  pub some : 0 < e.counters.total
+  pub none : e.counters.done ≡ 0
   pub not_reached : e.reached ≡ 0
 
 -- the counts are to be read

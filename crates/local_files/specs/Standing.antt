@@ -44,7 +44,7 @@ call_bytes e = given_bytes e.call (put_bytes e)
 
 -- the bytes that a call which is done has given
 abbrev pub gathered : Files → List ℕ
-gathered e = take e.given e.buffer
+gathered e = take e.counters.given e.buffer
 
 -- What is so while a block is wanted for a purpose.
 abbrev pub IsWanted : Purpose → Files → List ℕ → List ℕ → Type 0

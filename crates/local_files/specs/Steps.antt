@@ -12,6 +12,7 @@ use Rattle.local_files.specs.declared.BlockWork.TheVariants as work
 use Rattle.local_files.specs.declared.Phase.TheVariants.{Done, Wants}
 use Rattle.local_files.specs.declared.Purpose.{Purpose}
 use Rattle.local_files.specs.declared.Purpose.TheVariants.{Search, Walk, Fetch, Counts, Reach, PatchRead, PatchWrite, TakeRead, TakeWrite, AddRead, AddWrite, NewRead, NewWrite, LinkRead, LinkWrite, CutRead, CutWrite, FreeWrite, EntryRead, EntryWrite, HeaderRead, HeaderWrite}
+use Rattle.local_files.specs.declared.Counters.{Counters}
 use Rattle.local_files.specs.declared.Files.{Files}
 
 -- what the abstract machine sees of an open file
@@ -30,7 +31,7 @@ position_at (Some f) = Some f.position
 
 -- the call is done, and has given no bytes
 abbrev pub answered : ℤ → Files → Files
-answered reply e = record e { phase = Done reply; given = 0 }
+answered reply e = record e { phase = Done reply; counters = record e.counters { given = 0 } }
 
 -- a device has this open
 abbrev pub with_device : ℕ → Option OpenFile → Files → Files
@@ -65,11 +66,15 @@ counted n = if nat_lt 2147483647 n then negsuc 0 else pos n
 
 -- the position in the file up to which a call has come
 abbrev pub at_byte : Files → ℕ
-at_byte e = (e.position + e.done) % 4294967296
+at_byte e = (e.counters.position + e.counters.done) % 4294967296
 
 -- how many of its bytes are in the block of that position
 abbrev pub piece : Files → ℕ
-piece e = min (512 - at_byte e % 512) (e.total - e.done)
+piece e = min (512 - at_byte e % 512) (e.counters.total - e.counters.done)
+
+-- the counters once those bytes are taken or put
+abbrev pub done_more : Files → Counters
+done_more e = record e.counters { done = (e.counters.done + piece e) % 4294967296 }
 
 -- the device that a call names, if it names one
 abbrev pub named_device : FileCall → Option ℕ

@@ -1,8 +1,8 @@
 -- The steps of `read` and `getc`.
-use Rattle.std.specs.Prelude.{ℕ, zero, suc, ◌+◌, ◌-◌, ◌/◌, ◌%◌, ◌==◌, not, nat_le, if◌then◌else◌, min, List, take, drop, Option, Some, None, slice_index, pos, negsuc}
+use Rattle.std.specs.Prelude.{ℕ, zero, suc, ◌-◌, ◌/◌, ◌%◌, ◌==◌, not, nat_le, if◌then◌else◌, min, List, take, drop, Option, Some, None, slice_index, pos, negsuc}
 use Rattle.lfs_format.specs.declared.Index.{Index}
 use Rattle.local_files.specs.Buffers.{put_at}
-use Rattle.local_files.specs.Steps.{is_getc, named_device, answered, device_at, moved_to, counted, at_byte, piece, going_on}
+use Rattle.local_files.specs.Steps.{is_getc, named_device, answered, device_at, moved_to, counted, at_byte, piece, going_on, done_more}
 use Rattle.local_files.specs.declared.OpenFile.{OpenFile}
 use Rattle.local_files.specs.declared.FileCall.{FileCall}
 use Rattle.local_files.specs.declared.Files.{Files}
@@ -17,9 +17,7 @@ reading f n call e =
     else (if nat_le f.entry.size f.position then answered (negsuc 1) e
     else going_on (Walk (f.position / 8192) f.entry.first) (record e {
       call = call;
-      position = f.position;
-      total = min n (f.entry.size - f.position);
-      done = 0;
+      counters = record e.counters { position = f.position; total = min n (f.entry.size - f.position); done = 0 };
     })))
 
 -- the same of a device, if it has something open
@@ -35,8 +33,8 @@ walked (suc rest) index e = going_on (Walk rest index.next) (record e { index = 
 -- the bytes of a data block are taken
 abbrev pub with_taken : List ℕ → Files → Files
 with_taken block e = record e {
-  buffer = put_at e.done (take (piece e) (drop (at_byte e % 512) block)) e.buffer;
-  done = (e.done + piece e) % 4294967296;
+  buffer = put_at e.counters.done (take (piece e) (drop (at_byte e % 512) block)) e.buffer;
+  counters = done_more e;
 }
 
 -- the next data block
@@ -46,8 +44,8 @@ next_fetch e = if at_byte e % 8192 == 0 then going_on (Walk 0 e.index.next) e el
 -- all bytes are read
 abbrev pub given_all : Files → Files
 given_all e = if is_getc e.call then answered (pos (slice_index e.buffer 0)) e else record e {
-  phase = Done (counted e.total);
-  given = e.total;
+  phase = Done (counted e.counters.total);
+  counters = record e.counters { given = e.counters.total };
 }
 
 -- all bytes are read: the position of the device is after them
@@ -61,7 +59,7 @@ finished_read (Some d) e = finished_at d e
 
 -- a data block was read
 abbrev pub read_on : Files → Files
-read_on e = if nat_le e.total e.done then finished_read (named_device e.call) e else next_fetch e
+read_on e = if nat_le e.counters.total e.counters.done then finished_read (named_device e.call) e else next_fetch e
 
 -- a data block was read
 abbrev pub fetched : List ℕ → Files → Files

@@ -70,7 +70,11 @@ impl Files {
             self.at_byte()
         };
         self.keep_at(d, position);
-        let reply = if self.is_write() { count(self.done) } else { 0 };
+        let reply = if self.is_write() {
+            count(self.counters.done)
+        } else {
+            0
+        };
         self.answer_with(reply);
     }
 }

@@ -8,7 +8,7 @@ ghost use Rattle.local_files.specs.Bounds.{left};
 ghost use Rattle.xinu_model.specs.Files.Work.{most_turns};
 ghost use Rattle.lfs_layout.specs.Images.{IsCleanImage};
 
-use crate::{BlockWork, Buffer, FileCall, Files, Phase, Purpose};
+use crate::{BlockWork, Buffer, Counters, FileCall, Files, Phase, Purpose};
 use lfs_check::Header;
 use lfs_format::{Entry, Index};
 use std::alloc::Global;
@@ -51,10 +51,12 @@ impl Files {
             at: 0,
             reached: 0,
             freed: 0,
-            position: 0,
-            total: 0,
-            done: 0,
-            given: 0,
+            counters: Counters {
+                position: 0,
+                total: 0,
+                done: 0,
+                given: 0,
+            },
             buffer,
         })
     }
@@ -127,7 +129,7 @@ impl Files {
     pub fn gathered(&self) -> &[u8]
         ensures bytes { result.now ≡ gathered self.now }
     {
-        self.buffer.first(self.given)
+        self.buffer.first(self.counters.given)
     }
 
     /// One good completion.

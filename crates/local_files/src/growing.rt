@@ -19,7 +19,8 @@ impl Files {
         let many = self.piece();
         self.header.free_data = LittleEndian::read_u32(&read[..4]);
         self.block = [0; 512];
-        self.buffer.patch(self.done, many, 0, &mut self.block);
+        self.buffer
+            .patch(self.counters.done, many, 0, &mut self.block);
         self.phase = Phase::Wants(Purpose::TakeWrite { block: b });
     }
 

@@ -180,6 +180,19 @@ pub enum Phase {
     Wants(Purpose),
 }
 
+/// How far a call has come, in bytes.
+#[derive(Clone, Copy)]
+pub struct Counters {
+    /// Where it begins in its file.
+    pub position: u32,
+    /// How many it takes or puts.
+    pub total: u32,
+    /// How many of these are taken or put.
+    pub done: u32,
+    /// How many a read that is done has given.
+    pub given: u32,
+}
+
 /// The engine.
 pub struct Files {
     pub blocks: u32,
@@ -198,12 +211,8 @@ pub struct Files {
     pub reached: u32,
     /// How many of the data blocks that it names are freed.
     pub freed: u32,
-    /// Where the call begins in the file, how many bytes it takes or puts, and how many of them it has.
-    pub position: u32,
-    pub total: u32,
-    pub done: u32,
-    /// How many bytes a read that is done has given.
-    pub given: u32,
+    /// How far the call has come.
+    pub counters: Counters,
     /// The bytes that a call puts or takes.
     pub buffer: Buffer,
 }
@@ -223,10 +232,7 @@ impl Drop for Files {
             at: _at,
             reached: _reached,
             freed: _freed,
-            position: _position,
-            total: _total,
-            done: _done,
-            given: _given,
+            counters: _counters,
             buffer: _buffer,
         } = self;
     }

@@ -31,9 +31,9 @@ impl Files {
             self.answer_with(-2);
         } else {
             self.call = call;
-            self.position = f.position;
-            self.total = n.min(f.entry.size - f.position);
-            self.done = 0;
+            self.counters.position = f.position;
+            self.counters.total = n.min(f.entry.size - f.position);
+            self.counters.done = 0;
             self.go_on(Purpose::Walk {
                 rest: f.position / 8192,
                 index: f.entry.first,
@@ -63,7 +63,7 @@ impl Files {
         ensures len { length read.now ≡ 512 }
     {
         self.take_piece(read);
-        if self.done >= self.total {
+        if self.counters.done >= self.counters.total {
             self.finish_read();
         } else {
             self.next_fetch();
@@ -77,8 +77,8 @@ impl Files {
         let from = self.at_byte() as usize % 512;
         let many = self.piece();
         self.buffer
-            .put(self.done, &read[from..from + many as usize]);
-        self.done = self.done.wrapping_add(many);
+            .put(self.counters.done, &read[from..from + many as usize]);
+        self.counters.done = self.counters.done.wrapping_add(many);
     }
 
     // Goes on to the next data block.
@@ -122,16 +122,16 @@ impl Files {
         if self.is_getc() {
             self.answer_byte();
         } else {
-            self.give(count(self.total));
+            self.give(count(self.counters.total));
         }
     }
 
     // The reply is the number of the bytes, and all of them are given.
     fn give(&mut self, reply: i32)
-        ensures new { self.new ≡ record self.old { phase = Phase.Done reply; given = self.old.total } }
+        ensures new { self.new ≡ record self.old { phase = Phase.Done reply; counters = record self.old.counters { given = self.old.counters.total } } }
     {
         self.phase = Phase::Done(reply);
-        self.given = self.total;
+        self.counters.given = self.counters.total;
     }
 
     // The first byte is the reply.

@@ -110,14 +110,14 @@ impl Files {
         ensures new { self.new ≡ answered reply self.old }
     {
         self.phase = Phase::Done(reply);
-        self.given = 0;
+        self.counters.given = 0;
     }
 
     // The position in the file up to which the call has come.
     pub(crate) fn at_byte(&self) -> u32
         ensures { result ≡ at_byte self.now }
     {
-        self.position.wrapping_add(self.done)
+        self.counters.position.wrapping_add(self.counters.done)
     }
 
     // How many bytes of the call are in the block of that position.
@@ -126,7 +126,7 @@ impl Files {
         ensures most { at_byte self.now % 512 + result ≤ 512 }
     {
         let room = 512 - self.at_byte() % 512;
-        room.min(self.total.saturating_sub(self.done))
+        room.min(self.counters.total.saturating_sub(self.counters.done))
     }
 
     // The position of a device becomes another.

@@ -32,9 +32,9 @@ impl Files {
         } else {
             self.hold(f, call);
             self.buffer.put(0, bytes);
-            self.position = f.position;
-            self.total = bytes.len() as u32;
-            self.done = 0;
+            self.counters.position = f.position;
+            self.counters.total = bytes.len() as u32;
+            self.counters.done = 0;
             self.reached = 0;
         }
     }
@@ -70,7 +70,7 @@ impl Files {
     pub(crate) fn next_put(&mut self)
         ensures new { self.new ≡ next_put self.old }
     {
-        if self.done >= self.total {
+        if self.counters.done >= self.counters.total {
             self.end_put();
         } else if self.at_end() {
             self.append();
@@ -83,7 +83,7 @@ impl Files {
     pub(crate) fn end_put(&mut self)
         ensures new { self.new ≡ end_put self.old }
     {
-        if self.done == 0 {
+        if self.counters.done == 0 {
             self.answer_with(-1);
         } else {
             self.phase = Phase::Wants(Purpose::EntryRead);
@@ -179,7 +179,8 @@ impl Files {
     {
         let (from, many) = (self.at_byte() % 512, self.piece());
         self.block = *read;
-        self.buffer.patch(self.done, many, from, &mut self.block);
+        self.buffer
+            .patch(self.counters.done, many, from, &mut self.block);
         self.phase = Phase::Wants(Purpose::PatchWrite { block: b });
     }
 
@@ -187,7 +188,7 @@ impl Files {
     pub(crate) fn put_done(&mut self)
         ensures new { self.new ≡ put_done self.old }
     {
-        self.done = self.done.wrapping_add(self.piece());
+        self.counters.done = self.counters.done.wrapping_add(self.piece());
         self.entry.size = self.entry.size.max(self.at_byte());
     }
 
