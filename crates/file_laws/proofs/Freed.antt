@@ -59,15 +59,10 @@ middle_dropped n base disk header slot entry entry' p bytes m name size first =
     record { header = header; entries = es; indexes = d.indexes; links = d.links } in s) p' in
     let datas_long = m.laid.datas in
     record {
-      clean = m.clean;
-      base_long = m.base_long;
+      from = m.from;
       long = m.long;
-      low = m.low;
-      high = m.high;
-      slot_is = m.slot_is;
       directory = m.directory;
       laid = subst R (set-set (entries disk) slot entry entry') lies;
-      was_used = m.was_used;
       named = name ∙ m.named;
       others = λ k l ne u. ap (λ bs. take (entry_at base k).size (flat_map (block_in disk) bs)) (get_or-set_other p.datas slot k [] [] ne)
           ∙ m.others k l ne u;
@@ -81,16 +76,11 @@ pub middle_data_freed : (n : ℕ) (base disk : List ℕ) (header : Header) (slot
     → p.held_data ≡ b ∷ rest → slice_index (numbered_values (link_in_bytes disk) n) b ≡ header.free_data
     → IsMiddle n base disk (record header { free_data = b }) slot entry (record p { free_data = b ∷ p.free_data; held_data = rest }) bytes
 middle_data_freed n base disk header slot entry p bytes b rest m e named = record {
-  clean = m.clean;
-  base_long = m.base_long;
+  from = m.from;
   long = m.long;
-  low = m.low;
-  high = m.high;
-  slot_is = m.slot_is;
   directory = m.directory;
   laid = Laid-data_freed (index_count (disk_geometry n)) (first_data (disk_geometry n)) n
       (shape_with n disk header slot entry) p b rest e named m.laid;
-  was_used = m.was_used;
   named = m.named;
   others = m.others;
   mine = m.mine;
@@ -105,16 +95,11 @@ pub middle_index_freed : (n : ℕ) (base disk : List ℕ) (header : Header) (slo
       held_index = rest;
     }) bytes
 middle_index_freed n base disk header slot entry p bytes i rest m e named = record {
-  clean = m.clean;
-  base_long = m.base_long;
+  from = m.from;
   long = m.long;
-  low = m.low;
-  high = m.high;
-  slot_is = m.slot_is;
   directory = m.directory;
   laid = Laid-index_freed (index_count (disk_geometry n)) (first_data (disk_geometry n)) n
       (shape_with n disk header slot entry) p i rest e named m.laid;
-  was_used = m.was_used;
   named = m.named;
   others = m.others;
   mine = m.mine;
@@ -132,16 +117,11 @@ pub middle_index_taken : (n : ℕ) (base disk : List ℕ) (header : Header) (slo
       held_index = i ∷ p.held_index;
     }) bytes
 middle_index_taken n base disk header slot entry p bytes i rest m e = record {
-  clean = m.clean;
-  base_long = m.base_long;
+  from = m.from;
   long = m.long;
-  low = m.low;
-  high = m.high;
-  slot_is = m.slot_is;
   directory = m.directory;
   laid = Laid-index_taken (index_count (disk_geometry n)) (first_data (disk_geometry n)) n
       (shape_with n disk header slot entry) p i rest e m.laid;
-  was_used = m.was_used;
   named = m.named;
   others = m.others;
   mine = m.mine;

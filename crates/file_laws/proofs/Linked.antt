@@ -74,15 +74,10 @@ middle_first n base disk header slot entry entry' p bytes i b hi hd m held_i hel
     let R : List Entry → Type 0 = λ es. LaidIn g (let s : Shape =
     record { header = header; entries = es; indexes = d.indexes; links = d.links } in s) p' in
     record {
-      clean = m.clean;
-      base_long = m.base_long;
+      from = m.from;
       long = m.long;
-      low = m.low;
-      high = m.high;
-      slot_is = m.slot_is;
       directory = m.directory;
       laid = subst R (set-set (entries disk) slot entry entry') lies;
-      was_used = m.was_used;
       named = name ∙ m.named;
       others = λ k l ne u. ap (λ bs. take (entry_at base k).size (flat_map (block_in disk) bs))
           (get_or-set_other p.datas slot k (b ∷ []) [] ne) ∙ m.others k l ne u;

@@ -50,15 +50,17 @@ middle_begins base slot c h u =
     (get_or-map (data_in g d.indexes) (entries base) k void_entry [] (omega (arith, l, len)))
     ∙ ap (λ x. take e.size (flat_map (block_in base) (data_in x (fields_of x base).indexes e))) (sym (geometry_is base c.version))) in
     record {
-      clean = c;
-      base_long = whole_blocks base c.faultless;
+      from = record {
+        clean = c;
+        base_long = whole_blocks base c.faultless;
+        low = (let R : Bool → Type 0 = λ b. cond b 14 8 ≤ n in subst R c.version size.0);
+        high = (let R : Bool → Type 0 = λ b. n ≤ cond b 65542 65536 in subst R c.version size.1);
+        slot_is = h;
+        was_used = u;
+      };
       long = whole_blocks base c.faultless;
-      low = (let R : Bool → Type 0 = λ b. cond b 14 8 ≤ n in subst R c.version size.0);
-      high = (let R : Bool → Type 0 = λ b. n ≤ cond b 65542 65536 in subst R c.version size.1);
-      slot_is = h;
       directory = λ k l. refl;
       laid = subst Q (sym (set-get_or (entries base) slot void_entry)) lies;
-      was_used = u;
       named = refl;
       others = λ k l ne v. bytes k l;
       mine = bytes slot h;
@@ -72,15 +74,10 @@ pub middle_put : (n : ℕ) (base disk : List ℕ) (header header' : Header) (slo
     → entry'.name ≡ entry.name → LaidIn (disk_geometry n) (shape_with n (block_put disk b block) header' slot entry') p'
     → IsMiddle n base (block_put disk b block) header' slot entry' p' (content_at (block_put disk b block) p' slot entry'.size)
 middle_put n base disk header header' slot entry entry' p p' bytes b block m low h w away same name laid = record {
-  clean = m.clean;
-  base_long = m.base_long;
+  from = m.from;
   long = length_put disk b n block m.long h w ∙ m.long;
-  low = m.low;
-  high = m.high;
-  slot_is = m.slot_is;
   directory = λ d l. put_other disk b n block d m.long h w (λ e. omega (arith, e, l, low)) ∙ m.directory d l;
   laid = laid;
-  was_used = m.was_used;
   named = name ∙ m.named;
   others = λ k l ne u. ap (λ bs. take (entry_at base k).size (flat_map (block_in (block_put disk b block)) bs)) (same k ne)
       ∙ ap (take (entry_at base k).size) (flat_same (block_in (block_put disk b block)) (block_in disk) (numbers_at p.datas k) (λ j q.
@@ -128,16 +125,11 @@ pub middle_taken : (n : ℕ) (base disk : List ℕ) (header : Header) (slot : �
     → IsMiddle n base disk (record header { free_data = slice_index (numbered_values (link_in_bytes disk) n) header.free_data }) slot entry
     (record p { free_data = rest; held_data = b ∷ p.held_data }) bytes
 middle_taken n base disk header slot entry p bytes b rest m e = record {
-  clean = m.clean;
-  base_long = m.base_long;
+  from = m.from;
   long = m.long;
-  low = m.low;
-  high = m.high;
-  slot_is = m.slot_is;
   directory = m.directory;
   laid = Laid-data_taken (index_count (disk_geometry n)) (first_data (disk_geometry n)) n
       (shape_with n disk header slot entry) p b rest e m.laid;
-  was_used = m.was_used;
   named = m.named;
   others = m.others;
   mine = m.mine;

@@ -223,15 +223,10 @@ middle_grown n base disk header slot entry after p bytes m name first i_size d_s
     let T : List (List ℕ) → Type 0 = λ ys. LaidIn g (laid.entry_put d slot after) (let q : Places = record p { datas = ys } in q) in
     let same = subst T (set-get_or p.datas slot []) (subst S (set-get_or p.chains slot []) lies) in
     record {
-      clean = m.clean;
-      base_long = m.base_long;
+      from = m.from;
       long = m.long;
-      low = m.low;
-      high = m.high;
-      slot_is = m.slot_is;
       directory = m.directory;
       laid = subst R (set-set (entries disk) slot entry after) same;
-      was_used = m.was_used;
       named = name ∙ m.named;
       others = m.others;
       mine = refl;

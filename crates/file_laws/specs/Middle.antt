@@ -25,18 +25,23 @@ shape_with n disk header slot entry = record {
 abbrev pub content_at : List ℕ → Places → ℕ → ℕ → List ℕ
 content_at disk p k size = take size (flat_map (block_in disk) (numbers_at p.datas k))
 
--- From a clean base of n blocks a call has come so far: files lie on the disk as the counts and the entry in memory have it, the file
--- of the slot has these bytes, and all other files have those of the base.
-pub record IsMiddle (n : ℕ) (base disk : List ℕ) (header : Header) (slot : ℕ) (entry : Entry) (p : Places) (bytes : List ℕ) : Type 0 where
+-- A clean base of n blocks has a file in a slot.
+pub record HasFileIn (n : ℕ) (base : List ℕ) (slot : ℕ) : Type 0 where
   pub clean : IsCleanImage base
   pub base_long : length base ≡ 512 * n
-  pub long : length disk ≡ 512 * n
   pub low : 14 ≤ n
   pub high : n ≤ 65542
   pub slot_is : slot < 78
+  pub was_used : entry_is_used (entry_at base slot) ≡ true
+
+-- From a clean base of n blocks a call has come so far: files lie on the disk as the counts and the entry in memory have it, the file
+-- of the slot has these bytes, and all other files have those of the base.
+pub record IsMiddle (n : ℕ) (base disk : List ℕ) (header : Header) (slot : ℕ) (entry : Entry) (p : Places) (bytes : List ℕ) : Type 0 where
+  pub from : HasFileIn n base slot
+  pub open from use *
+  pub long : length disk ≡ 512 * n
   pub directory : (d : ℕ) → d < 6 → block_in disk d ≡ block_in base d
   pub laid : LaidIn (disk_geometry n) (shape_with n disk header slot entry) p
-  pub was_used : entry_is_used (entry_at base slot) ≡ true
   pub named : entry.name ≡ (entry_at base slot).name
   pub others : (k : ℕ) → k < 78 → k ≢ slot → entry_is_used (entry_at base k) ≡ true
       → content_at disk p k (entry_at base k).size ≡ entry_bytes base (entry_at base k)

@@ -215,12 +215,8 @@ end_cut_goes e freed base disk s c all_index all_data = by_call e.call refl c.fo
             → IsMiddle n base disk (let x : Header = record e.header { files = (e.header.files + 4294967295) % 4294967296 } in
             x) e.slot e.entry c.places []
         with_files m = record {
-          clean = m.clean;
-          base_long = m.base_long;
+          from = m.from;
           long = m.long;
-          low = m.low;
-          high = m.high;
-          slot_is = m.slot_is;
           directory = m.directory;
           laid = record {
             chains = m.laid.chains;
@@ -232,7 +228,6 @@ end_cut_goes e freed base disk s c all_index all_data = by_call e.call refl c.fo
             one_index = m.laid.one_index;
             one_data = m.laid.one_data;
           };
-          was_used = m.was_used;
           named = m.named;
           others = m.others;
           mine = m.mine;
