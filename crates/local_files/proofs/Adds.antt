@@ -9,7 +9,7 @@ use Rattle.local_files.specs.declared.Files.{Files}
 use Rattle.local_files.specs.declared.Phase.{Phase}
 use Rattle.local_files.specs.Hands.{put_bytes}
 use Rattle.local_files.specs.Putting.{IsPutting, IsAt, IsAddWrite}
-use Rattle.local_files.specs.Steps.{at_byte, piece}
+use Rattle.local_files.specs.Steps.{at_byte, piece, with_index}
 use Rattle.local_files.specs.Standing.{Stands, InHand, GoesTo, call_bytes, IsStanding}
 use Rattle.local_files.proofs.Closings.{put_whole}
 use Rattle.xinu_model.specs.Files.Writing.{overwritten}
@@ -27,7 +27,7 @@ use Rattle.file_laws.proofs.Rewritten.{entry_count}
 use Rattle.local_files.proofs.Freeing.{number_at, null_at}
 use Rattle.std.proofs.lemmas.List.{length-replicate, take_all, drop_all, append-nil}
 use Rattle.file_laws.proofs.Patched.{middle_sized, middle_appended}
-use Rattle.local_files.specs.Puts.{at_end, next_put, put_done, added_index, with_index}
+use Rattle.local_files.specs.Puts.{at_end, next_put, put_done, added_index}
 use Rattle.local_files.proofs.Putting.{where_put}
 use Rattle.local_files.proofs.PutSteps.{ends_is, target_end}
 use Rattle.local_files.proofs.Pieces.{piece_is, piece_bytes, after_goes, piece_more, done_long, low_old}

@@ -1,5 +1,5 @@
 -- Each completion leaves fewer than there were.
-use Rattle.std.proofs.Common.{◌≡◌, ℕ, zero, suc, ◌+◌, ◌-◌, ◌*◌, ◌/◌, ◌%◌, ◌<◌, ◌≤◌, Bool, true, nat_le, nat_lt, ◌==◌, ◌||◌, if◌then◌else◌, List, [], length, refl, sym, ap, ◌∙◌, subst, arith, slice_index_or, ⊎_elim, Option, Some, None, negsuc, bytes_eq}
+use Rattle.std.proofs.Common.{replicate, ◌≡◌, ℕ, zero, suc, ◌+◌, ◌-◌, ◌*◌, ◌/◌, ◌%◌, ◌<◌, ◌≤◌, Bool, true, nat_le, nat_lt, ◌==◌, ◌||◌, if◌then◌else◌, List, [], length, refl, sym, ap, ◌∙◌, subst, arith, slice_index_or, ⊎_elim, Option, Some, None, negsuc, bytes_eq}
 use Rattle.std.proofs.lemmas.Bool.{cases_lt, and_parts}
 use Rattle.std.proofs.lemmas.Bool.Decides.{nat_tests}
 use Rattle.std.proofs.lemmas.Slice.Eq.{bytes_eq-Decides}
@@ -24,10 +24,10 @@ use Rattle.local_files.specs.declared.Phase.{Phase}
 use Rattle.local_files.specs.Hands.{system, name_of, IsSearch, IsReading, IsFetching, IsCutRead, IsCutWrite, IsFreeWrite}
 use Rattle.local_files.specs.Putting.{IsCounting, IsBegun, IsPatched, IsAddWrite, IsNewWrite, IsLinkWrite}
 use Rattle.local_files.specs.Standing.{Stands, InHand, call_of}
-use Rattle.local_files.specs.Steps.{answered, at_byte, device_at, device_of, lowest_free, is_truncate, going_on}
+use Rattle.local_files.specs.Steps.{answered, at_byte, device_at, device_of, lowest_free, is_truncate, going_on, to_write, with_piece, with_free_data, with_free_index, with_index}
 use Rattle.local_files.specs.Takes.{walked, fetched}
-use Rattle.local_files.specs.Puts.{target, counts_read, reached, next_put, put_done, patch_read, take_read, take_written, add_read, with_index, added_index, new_read, new_written, followed, link_read}
-use Rattle.local_files.specs.Cuts.{cutting, cut_read, cut_written, free_next, free_written}
+use Rattle.local_files.specs.Puts.{target, counts_read, reached, next_put, put_done, take_written, added_index, new_written, followed}
+use Rattle.local_files.specs.Cuts.{cutting, cut_written, free_next, free_written}
 use Rattle.file_laws.specs.StoredFiles.{empty_entry, one_more}
 use Rattle.local_files.specs.Opens.{IsLook, finding, missing, searching_on, opening_at, opened, ended, ended_at}
 use Rattle.local_files.specs.Bounds.{left, left_in, put_left, cut_left}
@@ -209,9 +209,9 @@ reached_falls e e' rest at base disk read phase new =
         (suc k + 7 + put_left e) (λ _. omega arith) (λ _. omega arith)
 
 -- the data block was read
-pub patch_read_falls : (e e' : Files) (b : ℕ) (base read : List ℕ) → e.phase ≡ Wants (PatchRead b) → e' ≡ patch_read b read e
+pub patch_read_falls : (e e' : Files) (b : ℕ) (base read : List ℕ) → e.phase ≡ Wants (PatchRead b) → e' ≡ to_write (PatchWrite b) (with_piece (at_byte e % 512) read e) e
     → left e' base < left e base
-patch_read_falls e e' b base read phase new = falls_to e e' (patch_read b read e) base (Wants (PatchRead b)) phase new (omega arith)
+patch_read_falls e e' b base read phase new = falls_to e e' (to_write (PatchWrite b) (with_piece (at_byte e % 512) read e) e) base (Wants (PatchRead b)) phase new (omega arith)
 
 -- it is written
 pub patch_written_falls : (e e' : Files) (b : ℕ) (base disk : List ℕ) → e.phase ≡ Wants (PatchWrite b) → e' ≡ next_put (put_done e)
@@ -225,9 +225,9 @@ patch_written_falls e e' b base disk phase new s =
     refl refl refl (λ z. absurd (omega (arith, z, at))) (omega arith))
 
 -- the free data block was read
-pub take_read_falls : (e e' : Files) (b next : ℕ) (base : List ℕ) → e.phase ≡ Wants (TakeRead b) → e' ≡ take_read b next e
+pub take_read_falls : (e e' : Files) (b next : ℕ) (base : List ℕ) → e.phase ≡ Wants (TakeRead b) → e' ≡ to_write (TakeWrite b) (with_piece 0 (replicate 512 0) e) (with_free_data next e)
     → left e' base < left e base
-take_read_falls e e' b next base phase new = falls_to e e' (take_read b next e) base (Wants (TakeRead b)) phase new (omega arith)
+take_read_falls e e' b next base phase new = falls_to e e' (to_write (TakeWrite b) (with_piece 0 (replicate 512 0) e) (with_free_data next e)) base (Wants (TakeRead b)) phase new (omega arith)
 
 -- it is written
 pub take_written_falls : (e e' : Files) (b : ℕ) (base : List ℕ) → e.phase ≡ Wants (TakeWrite b) → e' ≡ take_written b e
@@ -239,9 +239,9 @@ take_written_falls e e' b base phase new =
     (answered (negsuc 0) e) base (5 + put_left e) (λ _. omega arith) (λ _. omega arith)) (λ _. omega arith))
 
 -- the last index block was read
-pub add_read_falls : (e e' : Files) (b : ℕ) (block base : List ℕ) → e.phase ≡ Wants (AddRead b) → e' ≡ add_read b block e
+pub add_read_falls : (e e' : Files) (b : ℕ) (block base : List ℕ) → e.phase ≡ Wants (AddRead b) → e' ≡ to_write (AddWrite b) block e
     → left e' base < left e base
-add_read_falls e e' b block base phase new = falls_to e e' (add_read b block e) base (Wants (AddRead b)) phase new (omega arith)
+add_read_falls e e' b block base phase new = falls_to e e' (to_write (AddWrite b) block e) base (Wants (AddRead b)) phase new (omega arith)
 
 -- it is written
 pub add_written_falls : (e e' : Files) (b : ℕ) (base disk : List ℕ) → e.phase ≡ Wants (AddWrite b)
@@ -260,8 +260,8 @@ add_written_falls e e' b base disk phase new s =
 
 -- the free index block was read
 pub new_read_falls : (e e' : Files) (b i : ℕ) (old : Index) (block base : List ℕ) → e.phase ≡ Wants (NewRead b i)
-    → e' ≡ new_read b i old block e → left e' base < left e base
-new_read_falls e e' b i old block base phase new = falls_to e e' (new_read b i old block e) base (Wants (NewRead b i)) phase new (omega arith)
+    → e' ≡ to_write (NewWrite b i) block (with_free_index old.next e) → left e' base < left e base
+new_read_falls e e' b i old block base phase new = falls_to e e' (to_write (NewWrite b i) block (with_free_index old.next e)) base (Wants (NewRead b i)) phase new (omega arith)
 
 -- it is written
 pub new_written_falls : (e e' : Files) (b i : ℕ) (base disk : List ℕ) → e.phase ≡ Wants (NewWrite b i) → e' ≡ new_written b i e → Stands e base disk
@@ -283,9 +283,9 @@ new_written_falls e e' b i base disk phase new s =
     (λ _. omega arith))
 
 -- the last index block was read
-pub link_read_falls : (e e' : Files) (b i : ℕ) (block base : List ℕ) → e.phase ≡ Wants (LinkRead b i) → e' ≡ link_read b i block e
+pub link_read_falls : (e e' : Files) (b i : ℕ) (block base : List ℕ) → e.phase ≡ Wants (LinkRead b i) → e' ≡ to_write (LinkWrite b i) block e
     → left e' base < left e base
-link_read_falls e e' b i block base phase new = falls_to e e' (link_read b i block e) base (Wants (LinkRead b i)) phase new (omega arith)
+link_read_falls e e' b i block base phase new = falls_to e e' (to_write (LinkWrite b i) block e) base (Wants (LinkRead b i)) phase new (omega arith)
 
 -- it is written
 pub link_written_falls : (e e' : Files) (b i : ℕ) (base disk : List ℕ) → e.phase ≡ Wants (LinkWrite b i)
@@ -304,13 +304,13 @@ link_written_falls e e' b i base disk phase new s =
 -- Cutting.
 
 -- the index block was read
-pub cut_read_falls : (e e' : Files) (index : Index) (block base disk : List ℕ) → e.phase ≡ Wants CutRead → e' ≡ cut_read index block e
+pub cut_read_falls : (e e' : Files) (index : Index) (block base disk : List ℕ) → e.phase ≡ Wants CutRead → e' ≡ to_write CutWrite block (with_index index e)
     → Stands e base disk → left e' base < left e base
 cut_read_falls e e' index block base disk phase new s =
     let H : Phase → Type 0 = λ p. InHand p e base disk in
     let h : IsCutRead e base disk = subst H phase s.hand in
     let below = h.below in let long = h.cutting.chain_long in
-    falls_to e e' (cut_read index block e) base (Wants CutRead) phase new (omega (arith, below, long))
+    falls_to e e' (to_write CutWrite block (with_index index e)) base (Wants CutRead) phase new (omega (arith, below, long))
 
 -- it is written
 pub cut_written_falls : (e e' : Files) (base disk : List ℕ) → e.phase ≡ Wants CutWrite → e' ≡ free_next (cut_written e) → Stands e base disk

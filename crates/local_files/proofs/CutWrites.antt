@@ -28,17 +28,17 @@ use Rattle.file_laws.proofs.Middles.{middle_begins}
 use Rattle.file_laws.proofs.Reached.{middle_read, free_data_first, free_data_some}
 use Rattle.file_laws.proofs.Cutting.{cut_begins, cut_data, cut_index}
 use Rattle.local_files.specs.Hands.{IsCutFor, IsCutting, IsCutRead, IsCutWrite, IsFreeWrite}
-use Rattle.local_files.specs.Cuts.{cutting, end_cut, cut_read, cut_written, freed_index, free_next, free_written}
+use Rattle.local_files.specs.Cuts.{cutting, end_cut, cut_written, freed_index, free_next, free_written}
 use Rattle.local_files.proofs.Closings.{put_whole}
 use Rattle.local_files.proofs.Freeing.{end_cut_goes, some_at, goes_from}
 use Rattle.local_files.proofs.CutSteps.{for_kept, cutting_kept, cut_at_goes, free_next_goes}
 use Rattle.local_files.proofs.Standing.{with_block, with_disk}
 use Rattle.local_files.specs.declared.Phase.TheVariants.{Wants}
+use Rattle.local_files.specs.Steps.{going_on, to_write, with_index}
 use Rattle.local_files.specs.declared.Purpose.TheVariants.{CutRead, CutWrite, FreeWrite}
-use Rattle.local_files.specs.Steps.{going_on}
 
 -- The index block was read.
-pub cut_read_goes : (e e' : Files) (base disk read : List ℕ) → e.phase ≡ Wants CutRead → e' ≡ cut_read (index_at (e.at % 7) read) e'.block e
+pub cut_read_goes : (e e' : Files) (base disk read : List ℕ) → e.phase ≡ Wants CutRead → e' ≡ to_write CutWrite e'.block (with_index (index_at (e.at % 7) read) e)
     → IsIndexPut read (e.at % 7) (freed_index (index_at (e.at % 7) read) e) e'.block → Stands e base disk
     → read ≡ block_in disk (6 + e.at / 7) → GoesTo e'.phase e.call (call_bytes e) e e' base disk
 cut_read_goes e e' base disk read phase new put s honest =

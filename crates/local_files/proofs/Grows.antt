@@ -10,7 +10,7 @@ use Rattle.local_files.specs.declared.Files.{Files}
 use Rattle.local_files.specs.declared.Phase.{Phase}
 use Rattle.local_files.specs.Hands.{put_bytes}
 use Rattle.local_files.specs.Putting.{IsTake, IsTakeWrite, IsFilled}
-use Rattle.local_files.specs.Steps.{answered, at_byte, piece, going_on}
+use Rattle.local_files.specs.Steps.{answered, at_byte, piece, going_on, to_write, with_piece, with_free_data}
 use Rattle.local_files.specs.Standing.{Stands, InHand, GoesTo, call_bytes}
 use Rattle.local_files.proofs.Closings.{put_whole}
 use Rattle.xinu_model.specs.Files.Writing.{overwritten}
@@ -29,7 +29,7 @@ use Rattle.local_files.proofs.Closings.{put_whole}
 use Rattle.std.proofs.lemmas.List.{take_at}
 use Rattle.local_files.proofs.CutSteps.{index_on_disk}
 use Rattle.file_laws.proofs.Patched.{held_range, times_first}
-use Rattle.local_files.specs.Puts.{take_read, take_written, added_index, add_read}
+use Rattle.local_files.specs.Puts.{take_written, added_index}
 use Rattle.local_files.proofs.PutSteps.{put_changed, put_kept}
 use Rattle.local_files.proofs.Pieces.{IsPiece, piece_is, piece_bytes, patched_is}
 use Rattle.local_files.proofs.Standing.{with_block, with_disk}
@@ -37,14 +37,14 @@ use Rattle.local_files.specs.declared.Phase.TheVariants.{Wants}
 use Rattle.local_files.specs.declared.Purpose.TheVariants.{TakeRead, TakeWrite, AddRead, AddWrite, NewRead}
 
 -- The free data block was read: it is taken.
-pub take_read_goes : (e e' : Files) (b : ℕ) (base disk read : List ℕ) → e.phase ≡ Wants (TakeRead b) → e' ≡ take_read b (word_of read) e
+pub take_read_goes : (e e' : Files) (b : ℕ) (base disk read : List ℕ) → e.phase ≡ Wants (TakeRead b) → e' ≡ to_write (TakeWrite b) (with_piece 0 (replicate 512 0) e) (with_free_data (word_of read) e)
     → length e'.block ≡ 512 → Stands e base disk → read ≡ block_in disk b → GoesTo e'.phase e.call (call_bytes e) e e' base disk
 take_read_goes e e' b base disk read phase new wide s honest =
     let H : Phase → Type 0 = λ p. InHand p e base disk in
     let h : IsTake e b base disk = subst H phase s.hand in
     let r = h.ready in let p = r.places in let u = r.putting in
     let bytes = overwritten e.counters.position (take e.counters.done (put_bytes e)) (entry_bytes base (entry_at base e.slot)) in
-    let e2 : Files = take_read b (word_of read) e in
+    let e2 : Files = to_write (TakeWrite b) (with_piece 0 (replicate 512 0) e) (with_free_data (word_of read) e) in
     let rest = drop 1 p.free_data in
     let free : p.free_data ≡ b ∷ rest = free_data_some e.blocks base disk e.header e.slot e.entry p bytes u.middle (λ z.
     h.some (sym h.head ∙ z)) ∙ ap (λ x. x ∷ rest) h.head in
@@ -179,7 +179,7 @@ filled_kept e ph blk b base disk h = record {
 }
 
 -- The last index block was read: it gets the number.
-pub add_read_goes : (e e' : Files) (b : ℕ) (base disk read : List ℕ) → e.phase ≡ Wants (AddRead b) → e' ≡ add_read b e'.block e
+pub add_read_goes : (e e' : Files) (b : ℕ) (base disk read : List ℕ) → e.phase ≡ Wants (AddRead b) → e' ≡ to_write (AddWrite b) e'.block e
     → IsIndexPut read (e.at % 7) (added_index b e) e'.block → Stands e base disk → read ≡ block_in disk (6 + e.at / 7)
     → GoesTo e'.phase e.call (call_bytes e) e e' base disk
 add_read_goes e e' b base disk read phase new put s honest =

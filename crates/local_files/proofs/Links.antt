@@ -7,7 +7,7 @@ use Rattle.local_files.specs.declared.Files.{Files}
 use Rattle.local_files.specs.declared.Phase.{Phase}
 use Rattle.local_files.specs.Hands.{put_bytes}
 use Rattle.local_files.specs.Putting.{IsAt}
-use Rattle.local_files.specs.Steps.{at_byte}
+use Rattle.local_files.specs.Steps.{at_byte, to_write}
 use Rattle.local_files.specs.Standing.{Stands, InHand, GoesTo, call_bytes}
 use Rattle.local_files.proofs.Closings.{put_whole}
 use Rattle.xinu_model.specs.Files.Writing.{overwritten}
@@ -22,7 +22,7 @@ use Rattle.local_files.proofs.Putting.{put_open, put_small}
 use Rattle.local_files.proofs.PutSteps.{put_kept, target_end}
 use Rattle.local_files.proofs.Pieces.{after_goes, piece_is, piece_bytes}
 use Rattle.local_files.specs.Putting.{IsLink, IsLinkWrite}
-use Rattle.local_files.specs.Puts.{fresh_index, followed, link_read, linked_index}
+use Rattle.local_files.specs.Puts.{fresh_index, followed, linked_index}
 use Rattle.local_files.proofs.Putting.{put_small, put_open}
 use Rattle.local_files.proofs.Adds.{growing, slot_lists, append_last}
 use Rattle.file_laws.proofs.Patched.{middle_continued}
@@ -32,7 +32,7 @@ use Rattle.local_files.specs.declared.Phase.TheVariants.{Wants}
 use Rattle.local_files.specs.declared.Purpose.TheVariants.{LinkRead, LinkWrite}
 
 -- The last index block was read: it is to name the new one.
-pub link_read_goes : (e e' : Files) (b i : ℕ) (base disk read : List ℕ) → e.phase ≡ Wants (LinkRead b i) → e' ≡ link_read b i e'.block e
+pub link_read_goes : (e e' : Files) (b i : ℕ) (base disk read : List ℕ) → e.phase ≡ Wants (LinkRead b i) → e' ≡ to_write (LinkWrite b i) e'.block e
     → IsIndexPut read (e.at % 7) (linked_index i (index_at (e.at % 7) read)) e'.block → Stands e base disk
     → read ≡ block_in disk (6 + e.at / 7)
     → GoesTo e'.phase e.call (call_bytes e) e e' base disk

@@ -9,7 +9,7 @@ use Rattle.local_files.specs.declared.Files.{Files}
 use Rattle.local_files.specs.declared.Phase.{Phase}
 use Rattle.local_files.specs.Hands.{put_bytes}
 use Rattle.local_files.specs.Putting.{IsPutting, IsAt}
-use Rattle.local_files.specs.Steps.{at_byte, piece}
+use Rattle.local_files.specs.Steps.{at_byte, piece, to_write, with_free_index}
 use Rattle.local_files.specs.Standing.{Stands, InHand, GoesTo, call_bytes}
 use Rattle.local_files.proofs.Closings.{put_whole}
 use Rattle.xinu_model.specs.Files.Writing.{overwritten}
@@ -31,7 +31,7 @@ use Rattle.local_files.specs.Puts.{next_put, put_done}
 use Rattle.local_files.proofs.PutSteps.{put_changed}
 use Rattle.local_files.proofs.Pieces.{after_goes, piece_is, piece_bytes}
 use Rattle.local_files.specs.Putting.{IsNew, IsNewWrite}
-use Rattle.local_files.specs.Puts.{fresh_index, new_read, new_written, followed, linked_index}
+use Rattle.local_files.specs.Puts.{fresh_index, new_written, followed, linked_index}
 use Rattle.file_laws.proofs.Reached.{index_below}
 use Rattle.local_files.proofs.Adds.{growing, slot_lists, append_last}
 use Rattle.file_laws.proofs.Reached.{middle_index_got}
@@ -45,7 +45,7 @@ use Rattle.local_files.specs.declared.Purpose.TheVariants.{NewRead, NewWrite, Li
 
 -- The free index block was read: it is to be written with the number.
 pub new_read_goes : (e e' : Files) (b i : ℕ) (base disk read : List ℕ) → e.phase ≡ Wants (NewRead b i)
-    → e' ≡ new_read b i (index_at (i % 7) read) e'.block e → IsIndexPut read (i % 7) (fresh_index b e) e'.block → Stands e base disk
+    → e' ≡ to_write (NewWrite b i) e'.block (with_free_index (index_at (i % 7) read).next e) → IsIndexPut read (i % 7) (fresh_index b e) e'.block → Stands e base disk
     → read ≡ block_in disk (6 + i / 7)
     → GoesTo e'.phase e.call (call_bytes e) e e' base disk
 new_read_goes e e' b i base disk read phase new put s honest =

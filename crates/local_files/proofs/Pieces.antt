@@ -10,7 +10,7 @@ use Rattle.local_files.specs.declared.Files.{Files}
 use Rattle.local_files.specs.declared.Phase.{Phase}
 use Rattle.local_files.specs.Hands.{put_bytes}
 use Rattle.local_files.specs.Putting.{IsPutting, IsReady, IsAt, IsReach, IsPatch, IsPatched}
-use Rattle.local_files.specs.Steps.{answered, at_byte, piece}
+use Rattle.local_files.specs.Steps.{answered, at_byte, piece, to_write, with_piece}
 use Rattle.local_files.specs.Standing.{Stands, InHand, GoesTo, call_bytes, IsStanding}
 use Rattle.local_files.proofs.Closings.{put_whole}
 use Rattle.xinu_model.specs.Files.Writing.{overwritten}
@@ -31,7 +31,7 @@ use Rattle.local_files.proofs.CutSteps.{index_on_disk}
 use Rattle.file_laws.proofs.Patched.{middle_sized, middle_patched}
 use Rattle.file_laws.proofs.Fitting.{length_overwritten}
 use Rattle.local_files.proofs.Taking.{take_add}
-use Rattle.local_files.specs.Puts.{at_end, target, next_put, put_done, patch_read, reached}
+use Rattle.local_files.specs.Puts.{at_end, target, next_put, put_done, reached}
 use Rattle.local_files.proofs.Putting.{put_open, put_entry_is, put_small, where_put, puts_long, put_size}
 use Rattle.local_files.proofs.PutSteps.{put_kept, ready_kept, inside_is, target_in, next_put_goes}
 use Rattle.local_files.specs.Buffers.{patched}
@@ -180,7 +180,7 @@ low_old e base disk p s u =
     let within = (put_open e base disk p s u).position in let a = u.position in omega (arith, is, old, within, a)
 
 -- The data block was read: it gets the bytes.
-pub patch_read_goes : (e e' : Files) (b : ℕ) (base disk read : List ℕ) → e.phase ≡ Wants (PatchRead b) → e' ≡ patch_read b read e
+pub patch_read_goes : (e e' : Files) (b : ℕ) (base disk read : List ℕ) → e.phase ≡ Wants (PatchRead b) → e' ≡ to_write (PatchWrite b) (with_piece (at_byte e % 512) read e) e
     → length read ≡ 512 → length e'.block ≡ 512 → Stands e base disk → read ≡ block_in disk b
     → GoesTo e'.phase e.call (call_bytes e) e e' base disk
 patch_read_goes e e' b base disk read phase new wide wide' s honest =

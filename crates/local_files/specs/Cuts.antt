@@ -9,7 +9,7 @@ use Rattle.local_files.specs.declared.OpenFile.{OpenFile}
 use Rattle.local_files.specs.declared.FileCall.{FileCall}
 use Rattle.local_files.specs.declared.Files.{Files}
 use Rattle.local_files.specs.declared.Phase.TheVariants.{Wants}
-use Rattle.local_files.specs.declared.Purpose.TheVariants.{Counts, CutRead, CutWrite, FreeWrite, EntryRead}
+use Rattle.local_files.specs.declared.Purpose.TheVariants.{Counts, CutRead, FreeWrite, EntryRead}
 
 -- a call takes the file of a device in hand, and reads the counts
 abbrev pub held_file : OpenFile → FileCall → Files → Files
@@ -45,10 +45,6 @@ cutting entry e =
 -- an index block that names the first free one
 abbrev pub freed_index : Index → Files → Index
 freed_index index e = record index { next = e.header.free_index }
-
--- an index block was read
-abbrev pub cut_read : Index → List ℕ → Files → Files
-cut_read index block e = record e { index = index; block = block; phase = Wants CutWrite }
 
 -- it is written: it is the first free one
 abbrev pub cut_written : Files → Files

@@ -4,14 +4,14 @@ use Rattle.lfs_format.specs.declared.Index.{Index}
 use Rattle.lfs_format.specs.declared.Dir.{Dir}
 use Rattle.lfs_check.specs.Fields.{header_2}
 use Rattle.lfs_check.specs.Meets.{null}
-use Rattle.local_files.specs.Buffers.{put_at, patched}
-use Rattle.local_files.specs.Steps.{answered, at_byte, piece, is_truncate, going_on, done_more}
+use Rattle.local_files.specs.Buffers.{put_at}
+use Rattle.local_files.specs.Steps.{answered, at_byte, is_truncate, going_on, done_more}
 use Rattle.local_files.specs.Cuts.{cutting, held_file}
 use Rattle.local_files.specs.declared.OpenFile.{OpenFile}
 use Rattle.local_files.specs.declared.FileCall.{FileCall}
 use Rattle.local_files.specs.declared.Files.{Files}
 use Rattle.local_files.specs.declared.Phase.TheVariants.{Wants}
-use Rattle.local_files.specs.declared.Purpose.TheVariants.{Reach, PatchRead, PatchWrite, TakeRead, TakeWrite, AddRead, AddWrite, NewRead, NewWrite, LinkRead, LinkWrite, EntryRead}
+use Rattle.local_files.specs.declared.Purpose.TheVariants.{Reach, PatchRead, TakeRead, AddRead, NewRead, LinkRead, EntryRead}
 
 -- a write of these bytes begins
 abbrev pub writing : OpenFile → List ℕ → FileCall → Files → Files
@@ -69,22 +69,10 @@ abbrev pub reached : ℕ → ℕ → Index → Files → Files
 reached zero at index e = next_put (record e { index = index; at = at; reached = target e + 1 })
 reached (suc rest) at index e = going_on (Reach rest index.next) (record e { index = index; at = at })
 
--- a data block of the file was read
-abbrev pub patch_read : ℕ → List ℕ → Files → Files
-patch_read b block e = record e { block = patched e.counters.done (piece e) (at_byte e % 512) e.buffer block; phase = Wants (PatchWrite b) }
-
 -- the bytes are on the disk
 abbrev pub put_done : Files → Files
 put_done e = let d : Files = record e { counters = done_more e } in
     record d { entry = record e.entry { size = max e.entry.size (at_byte d) } }
-
--- a free data block was read
-abbrev pub take_read : ℕ → ℕ → Files → Files
-take_read b next e = record e {
-  header = record e.header { free_data = next };
-  block = patched e.counters.done (piece e) 0 e.buffer (replicate 512 0);
-  phase = Wants (TakeWrite b);
-}
 
 -- the data block is written
 abbrev pub take_written : ℕ → Files → Files
@@ -94,21 +82,9 @@ take_written b e = if at_byte e % 8192 == 0 then going_on (NewRead b e.header.fr
 abbrev pub added_index : ℕ → Files → Index
 added_index b e = record e.index { blocks = slice_set e.index.blocks (at_byte e / 512 % 16) b }
 
--- the last index block was read
-abbrev pub add_read : ℕ → List ℕ → Files → Files
-add_read b block e = record e { block = block; phase = Wants (AddWrite b) }
-
--- the engine has another index block
-abbrev pub with_index : Index → Files → Files
-with_index index e = record e { index = index }
-
 -- an index block of one data block
 abbrev pub fresh_index : ℕ → Files → Index
 fresh_index b e = record { next = null; offset = at_byte e; blocks = slice_set (replicate 16 null) 0 b }
-
--- a free index block was read
-abbrev pub new_read : ℕ → ℕ → Index → List ℕ → Files → Files
-new_read b i old block e = record e { header = record e.header { free_index = old.next }; block = block; phase = Wants (NewWrite b i) }
 
 -- the new index block is the last
 abbrev pub followed : ℕ → ℕ → Files → Files
@@ -125,7 +101,3 @@ new_written b i e =
 -- the index block that is named by the one before it
 abbrev pub linked_index : ℕ → Index → Index
 linked_index i index = record index { next = i }
-
--- the last index block was read
-abbrev pub link_read : ℕ → ℕ → List ℕ → Files → Files
-link_read b i block e = record e { block = block; phase = Wants (LinkWrite b i) }

@@ -8,8 +8,7 @@ use Rattle.lfs_check.specs.Disks.{entry_at, header_on}
 use Rattle.xinu_model.specs.Files.Writing.{overwritten}
 use Rattle.file_laws.specs.StoredFiles.{entry_bytes}
 use Rattle.file_laws.specs.Middle.{IsMiddle}
-use Rattle.local_files.specs.Buffers.{patched}
-use Rattle.local_files.specs.Steps.{device_at, device_of, at_byte, piece, is_truncate, block_of_index}
+use Rattle.local_files.specs.Steps.{device_at, device_of, at_byte, piece, is_truncate, block_of_index, with_piece}
 use Rattle.local_files.specs.Puts.{at_end, target, fresh_index, linked_index, added_index}
 use Rattle.local_files.specs.declared.OpenFile.{OpenFile}
 use Rattle.local_files.specs.declared.FileCall.{FileCall}
@@ -74,7 +73,7 @@ pub record IsPatch (e : Files) (b : ℕ) (base disk : List ℕ) : Type 0 where
 -- the data block is to be written with the bytes
 pub record IsPatched (e : Files) (b : ℕ) (base disk : List ℕ) : Type 0 where
   pub patch : IsPatch e b base disk
-  pub block : e.block ≡ patched e.counters.done (piece e) (at_byte e % 512) e.buffer (block_in disk b)
+  pub block : e.block ≡ with_piece (at_byte e % 512) (block_in disk b) e
 
 -- the next bytes need a new data block, and an index block if they are the first of one
 pub record IsTake (e : Files) (b : ℕ) (base disk : List ℕ) : Type 0 where
@@ -101,7 +100,7 @@ pub record IsTaken (e : Files) (b : ℕ) (base disk : List ℕ) : Type 0 where
 -- it is to be written with the bytes
 pub record IsTakeWrite (e : Files) (b : ℕ) (base disk : List ℕ) : Type 0 where
   pub taken : IsTaken e b base disk
-  pub block : e.block ≡ patched e.counters.done (piece e) 0 e.buffer (replicate 512 0)
+  pub block : e.block ≡ with_piece 0 (replicate 512 0) e
 
 -- it has the bytes
 pub record IsFilled (e : Files) (b : ℕ) (base disk : List ℕ) : Type 0 where

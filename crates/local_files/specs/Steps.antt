@@ -4,6 +4,8 @@ use Rattle.std.specs.List.{list_any}
 use Rattle.xinu_model.specs.Files.Systems as systems
 use Rattle.xinu_model.specs.Files.Systems.{free_device}
 use Rattle.lfs_layout.specs.Files.{bare_name}
+use Rattle.lfs_format.specs.declared.Index.{Index}
+use Rattle.local_files.specs.Buffers.{patched}
 use Rattle.local_files.specs.declared.OpenFile.{OpenFile}
 use Rattle.local_files.specs.declared.FileCall.{FileCall}
 use Rattle.local_files.specs.declared.FileCall.TheVariants.{Open, Delete, Close, Read, Write, Getc, Putc, Seek, Truncate, Size}
@@ -126,6 +128,26 @@ block_for HeaderWrite e = work.Write 0
 -- The engine goes on to the block that is wanted for a purpose, if the disk has such a block.
 abbrev pub going_on : Purpose → Files → Files
 going_on purpose e = if nat_lt (block_of (block_for purpose e)) e.blocks then record e { phase = Wants purpose } else answered (negsuc 0) e
+
+-- A block is to be written for a purpose.
+abbrev pub to_write : Purpose → List ℕ → Files → Files
+to_write purpose block e = record e { block = block; phase = Wants purpose }
+
+-- a block with those bytes from a place on
+abbrev pub with_piece : ℕ → List ℕ → Files → List ℕ
+with_piece from block e = patched e.counters.done (piece e) from e.buffer block
+
+-- the engine has another index block
+abbrev pub with_index : Index → Files → Files
+with_index index e = record e { index = index }
+
+-- another data block is the first free one
+abbrev pub with_free_data : ℕ → Files → Files
+with_free_data block e = record e { header = record e.header { free_data = block } }
+
+-- another index block is the first free one
+abbrev pub with_free_index : ℕ → Files → Files
+with_free_index index e = record e { header = record e.header { free_index = index } }
 
 -- which calls these are
 abbrev pub is_getc : FileCall → Bool

@@ -3,8 +3,8 @@
 ghost use Rattle.std.specs.Prelude.{◌≡◌, ◌<◌, ◌≤◌, ◌+◌, ◌/◌, ◌%◌, ℕ, true, false, Some, None, negsuc, pos, length};
 ghost use Rattle.lfs_format.specs.Words.{word_of};
 ghost use Rattle.lfs_format.specs.Indexes.{index_at, IsIndexPut};
-ghost use Rattle.local_files.specs.Steps.{device_at};
-ghost use Rattle.local_files.specs.Cuts.{truncating_at, truncating, cutting, cut_read, freed_index, cut_written, free_next, freeing, free_written, end_cut, word_block};
+ghost use Rattle.local_files.specs.Steps.{device_at, to_write, with_index};
+ghost use Rattle.local_files.specs.Cuts.{truncating_at, truncating, cutting, freed_index, cut_written, free_next, freeing, free_written, end_cut, word_block};
 
 use crate::{FileCall, FileDev, Files, OpenFile, Phase, Purpose};
 use byteorder::{ByteOrder, LittleEndian};
@@ -53,7 +53,7 @@ impl Files {
 
     // An index block is read: it gets the number of the first free one.
     pub(crate) fn cut_read(&mut self, read: &[u8; 512])
-        ensures new { self.new ≡ cut_read (index_at (self.old.at % 7) read.now) self.new.block self.old }
+        ensures new { self.new ≡ to_write Purpose.CutWrite self.new.block (with_index (index_at (self.old.at % 7) read.now) self.old) }
         ensures block { IsIndexPut read.now (self.old.at % 7) (freed_index (index_at (self.old.at % 7) read.now) self.old) self.new.block }
     {
         let k = self.at as usize % 7;

@@ -3,7 +3,7 @@
 ghost use Rattle.std.specs.Prelude.{◌≡◌, ◌+◌, ◌/◌, ◌%◌, ◌<◌, ℕ, pos, Some};
 ghost use Rattle.lfs_format.specs.Directory.{dir_of, IsDirBlock};
 ghost use Rattle.lfs_check.specs.Disks.{dir_with_entry, dir_with_header};
-ghost use Rattle.local_files.specs.Steps.{lowest_free, named_device};
+ghost use Rattle.local_files.specs.Steps.{lowest_free, named_device, to_write};
 ghost use Rattle.local_files.specs.Opens.{ended, ended_at};
 
 use crate::table::count;
@@ -13,7 +13,7 @@ use lfs_format::{read_dir, write_dir};
 impl Files {
     // The directory block of the entry is read: it gets the entry.
     pub(crate) fn put_entry(&mut self, read: &[u8; 512])
-        ensures new { self.new ≡ record self.old { phase = Phase.Wants Purpose.EntryWrite; block = self.new.block } }
+        ensures new { self.new ≡ to_write Purpose.EntryWrite self.new.block self.old }
         ensures block { IsDirBlock (dir_with_entry (dir_of read.now) (self.old.slot % 13) self.old.entry) self.new.block }
     {
         let mut dir = read_dir(read);
@@ -31,7 +31,7 @@ impl Files {
 
     // The first directory block is read: it gets the counts.
     pub(crate) fn put_header(&mut self, read: &[u8; 512])
-        ensures new { self.new ≡ record self.old { phase = Phase.Wants Purpose.HeaderWrite; block = self.new.block } }
+        ensures new { self.new ≡ to_write Purpose.HeaderWrite self.new.block self.old }
         ensures block { IsDirBlock (dir_with_header (dir_of read.now) self.old.header) self.new.block }
     {
         let mut dir = read_dir(read);

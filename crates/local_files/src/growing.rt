@@ -1,10 +1,10 @@
 //! A file gets a new data block, and a new index block if one is needed.
 
-ghost use Rattle.std.specs.Prelude.{◌≡◌, ◌<◌, ◌≤◌, ◌+◌, ◌/◌, ◌%◌, ℕ, true, false, length};
+ghost use Rattle.std.specs.Prelude.{replicate, ◌≡◌, ◌<◌, ◌≤◌, ◌+◌, ◌/◌, ◌%◌, ℕ, true, false, length};
 ghost use Rattle.lfs_format.specs.Words.{word_of};
 ghost use Rattle.lfs_format.specs.Indexes.{index_at, IsIndexPut};
-ghost use Rattle.local_files.specs.Steps.{at_byte};
-ghost use Rattle.local_files.specs.Puts.{next_put, put_done, take_read, take_written, added_index, with_index, add_read, fresh_index, new_read, new_written, followed, link_read, linked_index};
+ghost use Rattle.local_files.specs.Steps.{at_byte, to_write, with_piece, with_free_data, with_free_index, with_index};
+ghost use Rattle.local_files.specs.Puts.{next_put, put_done, take_written, added_index, fresh_index, new_written, followed, linked_index};
 
 use crate::{Files, Phase, Purpose};
 use byteorder::{ByteOrder, LittleEndian};
@@ -13,7 +13,7 @@ use lfs_format::{Index, NULL, read_index, write_index};
 impl Files {
     // The free data block is read: it gets the bytes.
     pub(crate) fn take_read(&mut self, b: u32, read: &[u8; 512])
-        ensures new { self.new ≡ take_read b (word_of read.now) self.old }
+        ensures new { self.new ≡ to_write (Purpose.TakeWrite b) (with_piece 0 (replicate 512 0) self.old) (with_free_data (word_of read.now) self.old) }
         ensures block { length self.new.block ≡ 512 }
     {
         let many = self.piece();
@@ -40,7 +40,7 @@ impl Files {
 
     // The last index block gets the number.
     pub(crate) fn add_read(&mut self, b: u32, read: &[u8; 512])
-        ensures new { self.new ≡ add_read b self.new.block self.old }
+        ensures new { self.new ≡ to_write (Purpose.AddWrite b) self.new.block self.old }
         ensures block { IsIndexPut read.now (self.old.at % 7) (added_index b self.old) self.new.block }
     {
         let index = self.added_index(b);
@@ -82,7 +82,7 @@ impl Files {
 
     // The free index block is read: it gets the number.
     pub(crate) fn new_read(&mut self, b: u32, i: u32, read: &[u8; 512])
-        ensures new { self.new ≡ new_read b i (index_at (i % 7) read.now) self.new.block self.old }
+        ensures new { self.new ≡ to_write (Purpose.NewWrite b i) self.new.block (with_free_index (index_at (i % 7) read.now).next self.old) }
         ensures block { IsIndexPut read.now (i % 7) (fresh_index b self.old) self.new.block }
     {
         self.header.free_index = read_index(read, i as usize % 7).next;
@@ -106,7 +106,7 @@ impl Files {
 
     // The last index block is read: it names the new one.
     pub(crate) fn link_read(&mut self, b: u32, i: u32, read: &[u8; 512])
-        ensures new { self.new ≡ link_read b i self.new.block self.old }
+        ensures new { self.new ≡ to_write (Purpose.LinkWrite b i) self.new.block self.old }
         ensures block { IsIndexPut read.now (self.old.at % 7) (linked_index i (index_at (self.old.at % 7) read.now)) self.new.block }
     {
         let k = self.at as usize % 7;

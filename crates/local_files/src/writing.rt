@@ -3,9 +3,9 @@
 ghost use Rattle.std.specs.Prelude.{◌≡◌, ◌≢◌, ◌<◌, ◌≤◌, ◌+◌, ◌-◌, ◌/◌, ◌%◌, ℕ, true, false, Some, None, negsuc, pos, length};
 ghost use Rattle.lfs_format.specs.Indexes.{index_at};
 ghost use Rattle.lfs_format.specs.Directory.{dir_of};
-ghost use Rattle.local_files.specs.Steps.{device_at, at_byte};
+ghost use Rattle.local_files.specs.Steps.{device_at, at_byte, to_write, with_piece};
 ghost use Rattle.local_files.specs.Cuts.{held_file};
-ghost use Rattle.local_files.specs.Puts.{writing_at, writing, counts_read, next_put, end_put, at_end, target, appending, in_place, reach_to, reached, patch_read, put_done};
+ghost use Rattle.local_files.specs.Puts.{writing_at, writing, counts_read, next_put, end_put, at_end, target, appending, in_place, reach_to, reached, put_done};
 
 use crate::{FileCall, FileDev, Files, OpenFile, Phase, Purpose};
 use lfs_check::Header;
@@ -173,7 +173,7 @@ impl Files {
 
     // The data block is read: it gets the bytes.
     pub(crate) fn patch_read(&mut self, b: u32, read: &[u8; 512])
-        ensures new { self.new ≡ patch_read b read.now self.old }
+        ensures new { self.new ≡ to_write (Purpose.PatchWrite b) (with_piece (at_byte self.old % 512) read.now self.old) self.old }
         ensures len { length read.now ≡ 512 }
         ensures block { length self.new.block ≡ 512 }
     {
