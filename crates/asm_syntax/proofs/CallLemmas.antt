@@ -5,7 +5,7 @@ use Rattle.std.specs.Prelude.{◌==◌}
 use Rattle.std.specs.Str.{bytes_eq}
 use Rattle.std.proofs.lemmas.Bool.{and_parts, eqb-true}
 use Rattle.std.proofs.lemmas.Slice.Eq.{bytes_eq-Decides}
-use Rattle.xinu_base.specs.Syscalls.{Syscall, syscalls, name_of}
+use Rattle.xinu_base.specs.Syscalls.{CALLS, Syscall, syscalls, name_of}
 use Rattle.asm_syntax.specs.Values.{call_among, call_of}
 
 -- these rows are numbered from k on, and a number's name is its row's
@@ -50,6 +50,10 @@ rows-here (row ∷ rows) (suc i) k name are within this =
     rows-here rows i (suc k) name named.1 (omega arith) (ap (λ (j : ℕ). bytes_eq (name_of j) name) (sym at) ∙ this)
     ∙ ap (λ (n : ℕ). Some n) (sym at)
 
+-- there is a row for each call
+rows-counted : length syscalls ≡ CALLS
+rows-counted = refl
+
 -- the search from the call of this number on
 unfoldable pub call_from : ℕ → List ℕ → Option ℕ
 call_from number name = call_among (drop (number - 1) syscalls) name
@@ -58,23 +62,23 @@ pub call_of-start : (name : List ℕ) → call_of name ≡ call_from 1 name
 unfolding call_of call_from
 call_of-start name = refl
 
-pub call_from-next : (number : ℕ) (name : List ℕ) → 1 ≤ number → number < 45 → bytes_eq (name_of number) name ≡ false
+pub call_from-next : (number : ℕ) (name : List ℕ) → 1 ≤ number → number ≤ CALLS → bytes_eq (name_of number) name ≡ false
     → call_from number name ≡ call_from (number + 1) name
 unfolding call_from
 call_from-next number name low high other =
     let at : 1 + (number - 1) ≡ number = omega arith in
     let next : suc (number - 1) ≡ number + 1 - 1 = omega arith in
-    rows-next syscalls (number - 1) 1 name refl (omega arith) (ap (λ (j : ℕ). bytes_eq (name_of j) name) at ∙ other)
+    rows-next syscalls (number - 1) 1 name refl (omega (arith, rows-counted)) (ap (λ (j : ℕ). bytes_eq (name_of j) name) at ∙ other)
     ∙ ap (λ (j : ℕ). call_among (drop j syscalls) name) next
 
-pub call_from-here : (number : ℕ) (name : List ℕ) → 1 ≤ number → number < 45 → bytes_eq (name_of number) name ≡ true
+pub call_from-here : (number : ℕ) (name : List ℕ) → 1 ≤ number → number ≤ CALLS → bytes_eq (name_of number) name ≡ true
     → call_from number name ≡ Some number
 unfolding call_from
 call_from-here number name low high this =
     let at : 1 + (number - 1) ≡ number = omega arith in
-    rows-here syscalls (number - 1) 1 name refl (omega arith) (ap (λ (j : ℕ). bytes_eq (name_of j) name) at ∙ this)
+    rows-here syscalls (number - 1) 1 name refl (omega (arith, rows-counted)) (ap (λ (j : ℕ). bytes_eq (name_of j) name) at ∙ this)
     ∙ ap (λ (n : ℕ). Some n) at
 
-pub call_from-end : (name : List ℕ) → call_from 45 name ≡ None
+pub call_from-end : (name : List ℕ) → call_from (CALLS + 1) name ≡ None
 unfolding call_from
 call_from-end name = refl

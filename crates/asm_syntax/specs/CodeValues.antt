@@ -1,6 +1,7 @@
 -- The values of operands in the code.
 use Rattle.std.specs.Prelude.{◌≡◌, ℕ, ◌<◌, ◌≤◌, ℤ, true, is_some, unwrap_or, List, []}
 use Rattle.std.specs.Borrow.{Bor}
+use Rattle.xinu_base.specs.Syscalls.{CALLS}
 use Rattle.asm_syntax.specs.Texts.{text_bytes}
 use Rattle.asm_syntax.specs.Values as spec
 use Rattle.asm_syntax.specs.declared.values.Fit.{Fit}
@@ -23,7 +24,7 @@ IsSmall fit = Unit {0}
 
 -- a value is a call's number
 abbrev pub IsCall : Fit ℕ → Type 0
-IsCall (Fits n) = n ≤ 44
+IsCall (Fits n) = n ≤ CALLS
 IsCall fit = Unit {0}
 
 -- a value is a number and a register's number
