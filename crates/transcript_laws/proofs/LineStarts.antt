@@ -1,6 +1,7 @@
 -- No other line looks like that of a call on files that took effect as the next one.
 use Rattle.std.proofs.Common.{◌≡◌, ◌==◌, ℕ, zero, suc, ◌+◌, ◌%◌, ◌/◌, true, false, if◌then◌else◌, List, [], ◌∷◌, ◌++◌, map, take, drop, ℤ, pos, negsuc, refl, sym, ap, ◌∙◌, append_assoc, append-nil, arith}
-use Rattle.std.specs.Prelude.{nat_lt, codes}
+use Rattle.std.specs.Option.{option_map_or}
+use Rattle.std.specs.Prelude.{nat_lt, codes, Option, Some}
 use Rattle.std.specs.List.{AllByRecursion, list_all}
 use Rattle.std.specs.Prelude.{not, ◌&&◌}
 use Rattle.transcript_laws.proofs.Texts.{starts}
@@ -124,10 +125,11 @@ tested_feed (d ∷ l) e = let h = and_parts (not (d == 10)) (list_all (λ d. not
 unknown_feed : NoFeed (codes "unknown")
 unknown_feed = tested_feed (codes "unknown") refl
 
-name_feed : (rows : List Syscall) (number : ℕ) → AllByRecursion (λ (r : Syscall). NoFeed r.name) rows → NoFeed (syscall_in rows number).name
+name_feed : (rows : List Syscall) (number : ℕ) → AllByRecursion (λ (r : Syscall). NoFeed r.name) rows
+    → NoFeed (option_map_or (λ row. row.name) (syscall_in rows number) (codes "unknown"))
 name_feed [] number h = unknown_feed
-name_feed (r ∷ rows) number h = cond_both (number == r.number) r (syscall_in rows number) (λ (x : Syscall). NoFeed x.name) (λ _. h.0)
-    (λ _. name_feed rows number h.1)
+name_feed (r ∷ rows) number h = cond_both (number == r.number) (Some r) (syscall_in rows number)
+    (λ (x : Option Syscall). NoFeed (option_map_or (λ row. row.name) x (codes "unknown"))) (λ _. h.0) (λ _. name_feed rows number h.1)
 
 -- the whole table of calls is tested at once
 rows_feed : (rows : List Syscall) → list_all (λ (r : Syscall). list_all (λ d. not (d == 10)) r.name) rows ≡ true
