@@ -2,13 +2,14 @@
 use Rattle.std.proofs.Common.{◌≡◌, ◌≢◌, ℕ, zero, suc, ◌+◌, ◌-◌, ◌*◌, ◌<◌, ◌≤◌, ◌==◌, true, not, List, [], ◌∷◌, ◌++◌, length, reverse, refl, sym, ap, subst, ◌∙◌, ⊎_elim, arith}
 use Rattle.std.specs.List.{AllByRecursion, list_any}
 use Rattle.std.proofs.Math.Nat.{suc-mul}
-use Rattle.std.proofs.lemmas.Bool.{and_parts, cases_eq, cond_both, eq-eqb, eqb-true, ne_eqb, not-true}
+use Rattle.std.proofs.lemmas.Bool.{and_parts, cases_eq, eq-eqb, ne_eqb, not-true}
 use Rattle.std.proofs.lemmas.List.{reverse-append}
 use Rattle.std.proofs.lemmas.List.Sorted.{IsPermutation-reverse, list_any-IsPermutation}
 use Rattle.xinu_model.specs.Pools.Buffers.{BufferPool, addresses, buffers, is_held, is_in, new_pool, with_free}
 use Rattle.xinu_model.specs.Sound.Tables.{count_in}
 use Rattle.table_laws.proofs.Buffers.{buffers_distinct, held_put_back, held_taken, is_out_uncounted, new_pool_buffers, new_pool_number}
 use Rattle.buffer_pools.specs.Buffers.{HasBuffers}
+use Rattle.table_laws.proofs.Lists.Counts.{distinct_with, count_more}
 
 -- A search that compares the other way round, over the list in reverse, finds the same.
 pub any_is_in : (a : ℕ) (l : List ℕ) → list_any (λ b. b == a) l ≡ is_in a (reverse l)
@@ -22,16 +23,6 @@ any_is_in a l = turned a l ∙ list_any-IsPermutation (λ b. a == b) l (reverse 
     turned : (a : ℕ) (l : List ℕ) → list_any (λ b. b == a) l ≡ is_in a l
     turned a [] = refl
     turned a (b ∷ l) = rw (same a b, turned a l)
-
--- a number that isn't in a list of distinct ones may stand before it
-distinct_with : (x a : ℕ) (l : List ℕ) → count_in a l ≡ 0 → count_in x l ≤ 1 → count_in x (a ∷ l) ≤ 1
-distinct_with x a l none h = cond_both (a == x) (suc (count_in x l)) (count_in x l) (λ n. n ≤ 1)
-    (λ b. let e : count_in x l ≡ 0 = subst (λ k. count_in k l ≡ 0) (eqb-true a x b) none in omega arith) (λ _. h)
-
--- one more number can only add
-count_more : (x a : ℕ) (l : List ℕ) → count_in x l ≤ count_in x (a ∷ l)
-count_more x a l = cond_both (a == x) (suc (count_in x l)) (count_in x l) (λ n. count_in x l ≤ n) (λ _. omega arith)
-    (λ _. omega arith)
 
 -- A free buffer is taken.
 pub has_taken : (pool : BufferPool) (a : ℕ) (free : List ℕ) → HasBuffers pool → pool.free ≡ a ∷ free

@@ -1,8 +1,7 @@
 -- The calls on ports: what is done is what they do.
-use Rattle.std.proofs.Common.{◌≡◌, ◌∙◌, ℕ, zero, suc, ◌-◌, ◌<◌, ◌≤◌, Bool, true, false, cond, nat_le, nat_lt, int_lt, List, [], ◌∷◌, length, set, get_or, Option, Some, None, refl, sym, ap, subst, arith}
+use Rattle.std.proofs.Common.{◌≡◌, ◌∙◌, ℕ, zero, suc, ◌-◌, ◌<◌, ◌≤◌, Bool, true, false, cond, nat_le, nat_lt, int_lt, List, [], ◌∷◌, length, Option, Some, None, refl, sym, ap, subst, arith}
 use Rattle.std.proofs.lemmas.Bool.{leb-false}
-use Rattle.std.proofs.lemmas.Int.{ints}
-use Rattle.ports.specs.Calls.{queue_by, received, received_from, sent, ticket_from, ticket_to, with_last}
+use Rattle.ports.specs.Calls.{received, received_from, sent, ticket_from, ticket_to, with_last}
 use Rattle.ports.specs.Calls as table
 use Rattle.ports.specs.Table.{PortTable}
 use Rattle.ports.specs.declared.moves.Received.{Received}
@@ -15,17 +14,18 @@ use Rattle.xinu_base.specs.declared.processes.Rest.TheVariants.{PtRecv, PtSend}
 use Rattle.table_laws.proofs.Frame.MoveTo.{owner_move, tokens_move}
 use Rattle.table_laws.proofs.Tables.Owners.{owner_tokens}
 use Rattle.xinu_model.specs.Machine.{CallResult, refused, returns, start, Xinu}
-use Rattle.xinu_model.specs.Ports.Calls.{finish_receive, finish_send, ptrecv, ptsend, put_message, sent_to, take_from, take_message, ticket_of, with_messages}
+use Rattle.xinu_model.specs.Ports.Calls.{finish_receive, finish_send, ptrecv, ptsend, sent_to, take_from, take_message, ticket_of}
 use Rattle.xinu_model.specs.Ports.Calls as model
 use Rattle.xinu_model.specs.Ports.Queues.{is_stale, MessagePort, most_nodes, nodes, port_at, PortQueue}
 use Rattle.xinu_model.specs.Semaphores.Counts.{count_of, most_tokens, with_tokens}
 use Rattle.xinu_model.specs.Semaphores.Waiting.{signalled, take_token}
 use Rattle.xinu_model.specs.Sound.Ports.{ArePorts}
 use Rattle.xinu_model.specs.Sound.Tables.{FitsOwner}
-use Rattle.xinu_model.specs.Tables.{move_to, no_semaphore, Place, Semaphore, semaphore_at, Tables}
+use Rattle.xinu_model.specs.Tables.{move_to, Place, semaphore_at, Tables}
 use Rattle.xinu_model.specs.Words.{signed}
 use Rattle.core_calls.specs.PortRoom.{HaveRoom}
 use Rattle.kernel_state.specs.Released.{IsOfPart}
+use Rattle.table_laws.proofs.PortRoom.{fewer_set, one_of_nodes, few_tokens}
 
 -- Sound ports have room, also if some tokens are gone.
 pub have_room : (t u : Tables) (ports : List MessagePort) → ArePorts t ports → ((r : ℕ) → (semaphore_at u r).owner ≡ (semaphore_at t r).owner)
@@ -45,18 +45,6 @@ have_room t u ports a owners fewer = record {
         room = omega (arith, s, n);
       });
 }
-
--- fewer tokens of one semaphore are no more of any
-fewer_set : (l : List Semaphore) (sem r n : ℕ) → n ≤ (get_or l sem no_semaphore).tokens
-    → (get_or (set l sem (record (get_or l sem no_semaphore) { tokens = n })) r no_semaphore).tokens ≤ (get_or l r no_semaphore).tokens
-fewer_set [] zero zero n h = omega arith
-fewer_set [] zero (suc r) n h = omega arith
-fewer_set [] (suc sem) zero n h = omega arith
-fewer_set [] (suc sem) (suc r) n h = omega arith
-fewer_set (x ∷ l) zero zero n h = h
-fewer_set (x ∷ l) zero (suc r) n h = omega arith
-fewer_set (x ∷ l) (suc sem) zero n h = omega arith
-fewer_set (x ∷ l) (suc sem) (suc r) n h = fewer_set l sem r n h
 
 -- once a token is taken
 pub room_taken : (t : Tables) (sem : ℕ) (ports : List MessagePort) → ArePorts t ports → HaveRoom (with_tokens sem ((semaphore_at t sem).tokens - 1) t) ports
@@ -95,17 +83,6 @@ is_put ticket message sem p h = by_stale (is_stale ticket p.ports) h
     by_stale : (b : Bool) → Put sem ≡ (table.sent_to (cond b None (port_at p.ports q).queue) q message p).0 → IsPut ticket sem p.ports
     by_stale true h = absurd (cc)
     by_stale false h = by_queue (port_at p.ports q).queue refl h
-
--- a port holds no more messages than all do
-one_of_nodes : (ports : List MessagePort) (q : ℕ) (queue : PortQueue) → (port_at ports q).queue ≡ Some queue → length queue.messages ≤ nodes ports
-one_of_nodes [] zero queue e = absurd (cc)
-one_of_nodes [] (suc q) queue e = absurd (cc)
-one_of_nodes (port ∷ ports) zero queue e = rw e (omega arith)
-one_of_nodes (port ∷ ports) (suc q) queue e = (let h = one_of_nodes ports q queue e in omega (arith, h))
-
--- a semaphore with few tokens can be signalled
-few_tokens : (x : Semaphore) (n : ℕ) → x.tokens < n → n ≤ 2147483647 → int_lt (count_of x) most_tokens ≡ true
-few_tokens x n h g = grind (arith, ints)
 
 -- So the receivers of a message that was put can be signalled.
 pub receivers_used : (t : Tables) (ports : List MessagePort) (ticket : PortTicket) (sem : ℕ) → HaveRoom t ports → IsPut ticket sem ports

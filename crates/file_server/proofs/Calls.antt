@@ -1,7 +1,7 @@
 -- Calls that can be carried out, with their bytes; and which stay after a death.
-use Rattle.std.proofs.Common.{◌≡◌, ℕ, ◌+◌, ◌≤◌, true, false, if◌then◌else◌, List, [], ◌∷◌, ◌++◌, length, map, take, drop, refl, ap, sym, subst, ◌∙◌, arith, Option, Some, None}
+use Rattle.std.proofs.Common.{◌≡◌, ℕ, ◌+◌, ◌≤◌, true, false, if◌then◌else◌, List, [], ◌∷◌, length, map, drop, refl, ap, sym, subst, ◌∙◌, arith, Option, Some, None}
 use Rattle.std.proofs.lemmas.Bool.Decides.{nat_tests}
-use Rattle.std.proofs.lemmas.List.{append-nil, drop_all, take-append-drop}
+use Rattle.std.proofs.lemmas.List.{append-nil, drop_all}
 use Rattle.file_server.specs.DiskStates.{HeldCall}
 use Rattle.file_server.specs.Requests.{call_with, kept_after, request_of}
 use Rattle.file_server.specs.Servers.{FirstIsHeld, IsUnderWay}
@@ -17,6 +17,7 @@ use Rattle.xinu_model.specs.Files.Systems.{FileSystem}
 use Rattle.xinu_model.specs.Files.Work.{FileRequest, bytes_written, copied, orphaned_call}
 use Rattle.xinu_model.specs.Memory.{in_ram}
 use Rattle.xinu_model.specs.RawDisk.Callers.{given_up, is_caller}
+use Rattle.xinu_model.proofs.FileOutcomes.{nothing_brought}
 
 -- the engine is given the bytes of the call,
 pub begun_bytes : (call : FileCall) (count at : ℕ) (memory : List ℕ)
@@ -46,18 +47,12 @@ begun_call (Seek d n) count at memory = refl
 begun_call (Truncate d) count at memory = refl
 begun_call (Size d) count at memory = refl
 
--- no bytes change nothing
-no_bytes_copied : (caller : Option ℕ) (at : ℕ) (memory : List ℕ) → copied caller at [] memory ≡ memory
-no_bytes_copied None at memory = refl
-no_bytes_copied (Some p) at memory =
-    ap (λ l. l ++ drop (at + 0) memory) (append-nil (take at memory)) ∙ (let e : at + 0 ≡ at = omega arith in ap (λ n. take at memory ++ drop n memory) e) ∙ take-append-drop at memory
-
 no_bytes_handed : (caller : Option ℕ) (at : ℕ) (bytes memory : List ℕ) → length bytes ≤ 0
     → (if in_ram at (length bytes) then copied caller at bytes memory else memory) ≡ copied caller at bytes memory
 no_bytes_handed caller at [] memory few =
     elim (in_ram at 0) as (λ b. (if b then copied caller at [] memory else memory) ≡ copied caller at [] memory) [
       | true ↦ refl
-      | false ↦ sym (no_bytes_copied caller at memory)
+      | false ↦ sym (nothing_brought caller at memory)
     ]
 no_bytes_handed caller at (b ∷ bytes) memory few = absurd (omega (arith, few))
 

@@ -5,7 +5,6 @@ pub mod Held
 pub mod Issues
 pub mod Lists
 pub mod Places
-pub mod Puts
 pub mod Servers
 pub mod Settling
 pub mod Starts

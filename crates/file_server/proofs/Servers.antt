@@ -21,6 +21,7 @@ use Rattle.xinu_model.specs.Files.Work.{FileRequest, FileWork, FileNote, FileSte
 use Rattle.xinu_model.specs.Memory.{in_ram}
 use Rattle.local_files.specs.Resting.{ChangesOneBlock, ServesDisk}
 use Rattle.xinu_base.specs.Constants.{SYSERR}
+use Rattle.xinu_model.proofs.FileOutcomes.{one_at_most}
 
 -- the call that waits is the first
 pub first_is_held : (hand : Option HeldCall) (calls : List FileRequest) (turns : ℕ) (s : FileSystem) → FirstIsHeld hand calls turns s
@@ -94,12 +95,6 @@ finished h d d' r rest turns memory memory' notes reply right is call done m n =
     ∙ ap (λ (k : List ℕ). let s : FileStep = record { work = with_first calls k d'.system; memory = k; notes = took_effect a Finished reply ∷ [] } in s) (sym here)
     ∙ ap (λ (l : List FileNote). let s : FileStep = record { work = with_first calls memory' d'.system; memory = memory'; notes = l } in s) (sym n)
 
--- a completion asks for one effect at most
-least_one : (calls : List FileRequest) (w : FileWork) → least_effects calls w ≤ 1
-least_one [] w = omega arith
-least_one (a ∷ calls) w =
-    elim (nat_lt (w.turns + 1) (most_turns a.call w.system)) as (λ b. (if b then 0 else 1) ≤ 1) [ true ↦ omega arith | false ↦ omega arith ]
-
 -- It takes effect, and the next ones go on.
 pub effect_completes : (h : HeldCall) (d d' : DiskState) (r : declared_request.FileRequest) (rest : List declared_request.FileRequest) (turns : ℕ)
     (memory memory' : List ℕ) (notes : List declared_note.FileNote) (reply : ℤ) (after : FileStep) → IsRequest r → d.hand ≡ Some h
@@ -109,7 +104,7 @@ pub effect_completes : (h : HeldCall) (d d' : DiskState) (r : declared_request.F
     → WentOn (about_to d' rest memory' notes) after → IsCompleted (work_of d (r ∷ rest) turns) memory after
 effect_completes h d d' r rest turns memory memory' notes reply after right is call done m n went =
     let w = work_of d (r ∷ rest) turns in
-    let one = least_one w.calls w in
+    let one = one_at_most w.calls w in
     let left = went.left in
     let about = ap length (about_calls d' rest memory' notes) in
     record {

@@ -1,16 +1,13 @@
 -- Items that are committed, and bytes that are sent.
-use Rattle.std.proofs.Common.{◌≡◌, ◌∙◌, ◌+◌, ◌-◌, ◌≤◌, ◌==◌, ℕ, false, cond, pos, List, ◌++◌, length, take, Option, Some, None, refl, sym, ap, subst, arith}
-use Rattle.std.proofs.lemmas.List.{length-append}
+use Rattle.std.proofs.Common.{◌≡◌, ◌∙◌, ◌+◌, ◌-◌, ◌≤◌, ◌==◌, ℕ, false, cond, pos, List, length, take, Option, Some, None, refl, sym, ap, subst, arith}
 use Rattle.kernel_state.proofs.Together.{released_then, releasing}
 use Rattle.kernel_state.specs.Results.{IsStart}
 use Rattle.kernel_tables.proofs.Rests.{SameRests}
 use Rattle.kernel_tables.proofs.Waiters.{rests_written}
 use Rattle.tty_driver.specs.Transmitting.{count_by}
 use Rattle.xinu_base.specs.Constants.{OK, SYSERR}
-use Rattle.part_laws.proofs.Consoles.Characters.{received_goes, controlled_goes}
 use Rattle.xinu_model.specs.Process.Scheduling.{ready_all}
 use Rattle.xinu_model.specs.Console.Controls.{after_control, controlled}
-use Rattle.xinu_model.specs.Console.Receiving.{received}
 use Rattle.xinu_model.specs.Console.Rows.{Committed}
 use Rattle.xinu_model.specs.Console.Signals.{console_control, control_with}
 use Rattle.xinu_model.specs.Console.Sound.{IsSoundConsole}
@@ -22,6 +19,7 @@ use Rattle.xinu_model.specs.Semaphores.Counts.{with_tokens}
 use Rattle.xinu_model.specs.Semaphores.Waiting.{signalled_times}
 use Rattle.xinu_model.specs.Sound.Console.{IsConsole}
 use Rattle.xinu_model.specs.Tables.{semaphore_at, Tables}
+use Rattle.part_laws.proofs.ConsoleRoom.{few_controlled}
 
 -- n signals of a semaphore at once
 pub signals_are : (s : Xinu) (sem n : ℕ) (released : List ℕ) (u : Tables) → released ≡ take n (semaphore_at s.tables sem).waiters
@@ -38,27 +36,6 @@ signals_are s sem n released u these is =
 -- there are no more tokens than items
 pub few_tokens : (t : Tables) (c : Console) → IsConsole t c → (semaphore_at t TY_ISEM).tokens ≤ 128
 few_tokens t c k = let items = k.items in let input = k.itself.input in omega (arith, items, input)
-
--- a character and a control function commit no more than there is room for
-pub few_received : (b : ℕ) (c : Console) → IsSoundConsole c → (received b c).count ≤ 128
-few_received b c k =
-    let g = received_goes b c in
-    let a = g.appends in
-    let input = (g.sound k).input in
-    let all : length (received b c).console.committed ≡ length (c.committed ++ a.items) = ap length a.committed in
-    let more = length-append c.committed a.items in
-    let count = a.count in
-    omega (arith, input, all, more, count)
-
-pub few_controlled : (f : ℕ) (c : Console) (m : Committed) → controlled f c ≡ Some m → IsSoundConsole c → m.count ≤ 128
-few_controlled f c m e k =
-    let g = controlled_goes f c m e in
-    let a = g.appends in
-    let input = (g.sound k).input in
-    let all : length m.console.committed ≡ length (c.committed ++ a.items) = ap length a.committed in
-    let more = length-append c.committed a.items in
-    let count = a.count in
-    omega (arith, input, all, more, count)
 
 -- the state inside an event with another console
 abbrev pub in_console : Console → CallState → CallState

@@ -1,5 +1,5 @@
 -- The moves of the kernel's tables keep what holds of them at each moment of an event.
-use Rattle.std.proofs.Common.{◌≡◌, ◌≢◌, ◌<◌, ◌∙◌, ℕ, ℤ, false, set, refl, sym, ap, subst, Option, None, Some, inl, inr}
+use Rattle.std.proofs.Common.{◌≡◌, ◌≢◌, ◌<◌, ◌∙◌, ℕ, ℤ, set, refl, sym, ap, subst, Option, None, Some, inl, inr}
 use Rattle.std.proofs.lemmas.Bool.{cond_both}
 use Rattle.xinu_base.specs.declared.processes.Process.{Process}
 use Rattle.xinu_base.specs.declared.processes.Rest.{Rest}
@@ -12,10 +12,10 @@ use Rattle.xinu_model.specs.Sound.Tables.{CanRun, FitsMessage, HoldsFor, IsInsid
 use Rattle.xinu_model.specs.Tables.{InReady, message_at, move_to, Nowhere, Place, process_at, state_at, Tables}
 use Rattle.table_laws.specs.Moves.{FitsPlace, IsPlaceOf}
 use Rattle.table_laws.proofs.Preserve.{current_within}
-use Rattle.table_laws.proofs.Tables.States.{is_ready_of}
 use Rattle.table_laws.proofs.Tables.Changes.{inside_process}
 use Rattle.table_laws.proofs.Tables.MoveTo.{inside_move, within_table}
 use Rattle.table_laws.proofs.Tables.Scheduling.{holds_at, inside_last_process, inside_ready, null_rest_at}
+use Rattle.xinu_model.proofs.States.{is_ready_of, is_not_ready}
 
 -- who can run doesn't wait
 null_waits : (s : State) → CanRun s → s ≡ Waiting → ⊥
@@ -74,10 +74,6 @@ inside_entered t p priority o e =
       slot = o.slots p;
       if_free = λ f. absurd (cc);
     })
-
--- a process that doesn't pass the test isn't ready
-is_not_ready : (s : State) → is_ready s ≡ false → s ≢ Ready
-is_not_ready s h e = let f = ap is_ready e in cc
 
 -- a process gets another priority
 pub inside_with_priority : (t : Tables) (p : ℕ) (priority : ℤ) → IsInside t → state_at t p ≢ Free → IsInside (with_priority p priority t)

@@ -10,8 +10,8 @@ use Rattle.xinu_base.specs.declared.processes.State.TheVariants.{Free, Current, 
 use Rattle.xinu_model.specs.Sound.Tables.{entries_of, HaveKeys, IsInside, ready_places}
 use Rattle.xinu_model.specs.Tables.{process_at, state_at, Tables}
 use Rattle.process_core.proofs.Inside.{uncounted}
-use Rattle.table_laws.proofs.Tables.Scheduling.{ready_of}
 use Rattle.kernel_tables.specs.Walks.{entries_from}
+use Rattle.xinu_model.proofs.States.{ready_of}
 
 -- each process is in the list at most once
 abbrev pub Once : List Entry → Type 0

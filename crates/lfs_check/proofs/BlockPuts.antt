@@ -5,6 +5,9 @@ use Rattle.std.proofs.lemmas.Bool.{cases_lt}
 use Rattle.lfs_check.specs.Rules.{block_in}
 use Rattle.lfs_check.specs.Disks.{block_put}
 use Rattle.lfs_format.proofs.Joins.{drop_past}
+use Rattle.std.proofs.Common.{◌≡◌, ℕ, ◌+◌, ◌-◌, ◌*◌, List, ◌++◌, take, ap, ◌∙◌, arith}
+use Rattle.std.proofs.lemmas.List.{drop-drop}
+use borrow.Rule.Slice.PartMut.{put_mid}
 
 -- the disk has as many blocks
 pub length_put : (disk : List ℕ) (n many : ℕ) (block : List ℕ) → length disk ≡ 512 * many → n < many → length block ≡ 512
@@ -56,3 +59,10 @@ put_other disk n many block m l h b ne =
     (λ (le : m ≤ n). absurd (ne (omega (arith, ge, le))))
     (cases_lt n m))
     (cases_lt m n)
+
+-- the bytes from the block's first on become these
+pub put_is : (disk block new : List ℕ) (n : ℕ) → new ≡ block → put_mid (512 * n) (512 * n + 512 - 512 * n) disk new ≡ block_put disk n block
+unfolding block_put
+put_is disk block new n e =
+    ap (λ k. put_mid (512 * n) k disk new) (let q : 512 * n + 512 - 512 * n ≡ 512 = omega arith in q) ∙ ap (put_mid (512 * n) 512 disk) e
+    ∙ ap (λ r. take (512 * n) disk ++ (block ++ r)) (drop-drop 512 (512 * n) disk)

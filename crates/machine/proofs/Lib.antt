@@ -12,5 +12,6 @@ pub mod OpenFiles
 pub mod PlainSteps
 pub mod Printings
 pub mod ShownLines
+pub mod SoFar
 pub mod Transmissions
 pub mod Walks

@@ -1,15 +1,6 @@
 -- Whether a prefix begins a name, and the first row whose prefix does.
 use Rattle.std.proofs.Common.{◌≡◌, ℕ, suc, ◌+◌, ◌<◌, Bool, true, false, List, ◌∷◌, length, get_or, drop, map, sym, ap, add-one, drop-cons, Some, cond}
-use Rattle.std.proofs.lemmas.Bool.Decides.{same_from_decides}
-use Rattle.std.proofs.lemmas.Slice.Eq.{bytes_eq-Decides}
 use Rattle.std.specs.List.{find}
-use Rattle.std.specs.Str.{bytes_eq}
-
--- two texts are the same in either order
-pub bytes_eq_turned : (a b : List ℕ) → bytes_eq a b ≡ bytes_eq b a
-bytes_eq_turned a b =
-    let d = bytes_eq-Decides b a in
-    same_from_decides (bytes_eq a b) (bytes_eq b a) (bytes_eq-Decides a b) ((λ e. sym (d.0 e)), (λ e. d.1 (sym e)))
 
 -- a row that doesn't fit is passed over
 pub find_later : {A B : Type 0} (f : A → B) (test : B → Bool) (xs : List A) (i : ℕ) (d : A) → i < length xs →

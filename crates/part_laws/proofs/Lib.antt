@@ -1,3 +1,4 @@
+pub mod ConsoleRoom
 pub mod Consoles
 pub mod FileSystems
 pub mod FileWork

@@ -1,12 +1,12 @@
 -- Lists and processes still fit after one process has moved.
-use Rattle.std.proofs.Common.{◌≡◌, ◌≢◌, ◌∙◌, ℕ, ◌<◌, ℤ, true, false, Option, Some, None, List, [], ◌∷◌, ◌++◌, length, set, refl, sym, ap, subst, inl, inr, arith, get_or-set_same, get_or-set_other}
+use Rattle.std.proofs.Common.{◌≡◌, ◌≢◌, ◌∙◌, ℕ, ◌<◌, ℤ, false, Option, Some, None, List, [], ◌∷◌, ◌++◌, length, set, refl, sym, ap, subst, inl, inr, arith, get_or-set_same, get_or-set_other}
 use Rattle.std.proofs.Math.ListN.{length-set}
 use Rattle.std.proofs.lemmas.Bool.{cases_eq, cases_lt}
 use Rattle.std.proofs.lemmas.List.{get_or_past, length-map}
 use Rattle.xinu_base.specs.Insert.{ready_insert}
 use Rattle.xinu_base.specs.declared.processes.Process.{Process}
 use Rattle.xinu_base.specs.declared.processes.State.{State}
-use Rattle.xinu_base.specs.declared.processes.State.TheVariants.{Free, Current, Ready, Receiving, Sleeping, Suspended, Waiting, Timed}
+use Rattle.xinu_base.specs.declared.processes.State.TheVariants.{Free, Current, Ready, Suspended, Waiting}
 use Rattle.queue_table.specs.Lists.{Entry, IsByKey, all_delta_without, all_without, delta_insert, is_listed, list_at, place, with_list, without}
 use Rattle.queue_table.proofs.Laws.{IsByKey-filter, IsByKey-insert, list_at-same, list_at-other, list_at_delta_without, list_at_without, place_delayed, place_delta_without_other, place_delta_without_same, place_inserted, place_pushed, place_without_other, place_without_same}
 use Rattle.queue_table.proofs.Deltas.{delta_without-absent}
@@ -162,14 +162,3 @@ running_within ls ps p f e = elim (cases_lt p 64) [
   | inl lt ↦ lt
   | inr le ↦ (let past : Free ≡ Current = sym (ap (λ (x : Process). x.state) (get_or_past ps p no_process (omega (arith, f.size)))) ∙ e in absurd (cc))
 ]
-
--- whoever is ready is so by the test
-pub ready_by_test : (s : State) → is_ready s ≡ true → s ≡ Ready
-ready_by_test Free h = absurd (cc)
-ready_by_test Current h = absurd (cc)
-ready_by_test Ready h = refl
-ready_by_test Receiving h = absurd (cc)
-ready_by_test Sleeping h = absurd (cc)
-ready_by_test Suspended h = absurd (cc)
-ready_by_test Waiting h = absurd (cc)
-ready_by_test Timed h = absurd (cc)

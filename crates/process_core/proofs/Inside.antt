@@ -16,6 +16,7 @@ use Rattle.process_core.specs.Tables.{ProcessTable, Beside, Mark, process_in, se
 use Rattle.process_core.specs.Fits.{Fits, MayBeIn}
 use Rattle.process_core.proofs.Fitting.{may_be_in}
 use Rattle.process_core.proofs.Semaphores.{get_or-take, semaphores-get, semaphores-length}
+use Rattle.xinu_model.proofs.States.{ready_of, waiting_of}
 
 -- a falling list is kept by key
 keys_at_most : (k : ℤ) (l : List Entry) → AllByRecursion (λ (b : Entry). b.1 ≤ℤ k) l → KeysAtMost k l
@@ -83,28 +84,6 @@ waits_least p q ls ms lt n =
 pub sleepers_counted : (p ticks : ℕ) (l : List Entry) → entries_of p (sleepers_of ticks l) ≡ entries_of p (delays l)
 sleepers_counted p ticks l = times-map (λ (e : ℕ × ℕ). eqb e.0 p) (λ (e : Entry). (e.0, wake_tick ticks e.1)) (delays l)
 
--- a process that is counted as ready is ready
-ready_if_counted : (s : State) → 0 < ready_places s → s ≡ Ready
-ready_if_counted Ready h = refl
-ready_if_counted Free h = absurd (omega arith)
-ready_if_counted Current h = absurd (omega arith)
-ready_if_counted Receiving h = absurd (omega arith)
-ready_if_counted Sleeping h = absurd (omega arith)
-ready_if_counted Suspended h = absurd (omega arith)
-ready_if_counted Waiting h = absurd (omega arith)
-ready_if_counted Timed h = absurd (omega arith)
-
--- one that is counted among the waiters waits
-waiting_if_counted : (s : State) → 0 < waiting_places s → s ≡ Waiting
-waiting_if_counted Waiting h = refl
-waiting_if_counted Free h = absurd (omega arith)
-waiting_if_counted Current h = absurd (omega arith)
-waiting_if_counted Ready h = absurd (omega arith)
-waiting_if_counted Receiving h = absurd (omega arith)
-waiting_if_counted Sleeping h = absurd (omega arith)
-waiting_if_counted Suspended h = absurd (omega arith)
-waiting_if_counted Timed h = absurd (omega arith)
-
 -- one that is counted among the sleepers may be there
 sleeping_if_counted : (s : State) → 0 < sleeping_places s → MayBeIn 129 s
 sleeping_if_counted Sleeping h = refl
@@ -128,11 +107,11 @@ inside_fits t s b o =
       placed = λ p q at. (let w = place-some ls p q at in let m = counted p (list_at ls q) w.1 in
           elim (cases_lt q 128) [
             | inl lt ↦ (let l = waits_least p q ls b.marks lt marks in
-                let is : (process_in s.processes p).state ≡ Waiting = waiting_if_counted _ (omega (arith, l, m, o.waiting p)) in
+                let is : (process_in s.processes p).state ≡ Waiting = waiting_of _ (omega (arith, l, m, o.waiting p)) in
                 may_be_in q Waiting (process_in s.processes p).state (sym is) lt)
             | inr le ↦ elim (cases_eq q 128) [
               | inl e ↦ (let F : ℕ → Type 0 = λ q. 0 < entries_of p (list_at ls q) in let m2 : 0 < entries_of p (list_at ls 128) = subst F e m in
-                  let is : (process_in s.processes p).state ≡ Ready = ready_if_counted _ (omega (arith, m2, o.ready p)) in
+                  let is : (process_in s.processes p).state ≡ Ready = ready_of _ (omega (arith, m2, o.ready p)) in
                   may_be_in q Ready (process_in s.processes p).state (sym is) e)
               | inr n ↦ (
                   let e : q ≡ 129 = omega (arith, n, w.0, queues_of t) in

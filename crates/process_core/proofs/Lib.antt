@@ -7,7 +7,6 @@ pub mod Fitting
 pub mod Rescheds
 pub mod Searches
 pub mod Starts
-pub mod Names
 pub mod Inside
 pub mod Steps
 pub mod Placed

@@ -1,5 +1,4 @@
 pub mod HeapCells
 pub mod Made
-pub mod NameFields
 pub mod Rows
 pub mod Ticks

@@ -1,8 +1,7 @@
 -- Bytes of RAM: a range of it read byte by byte, and no bytes written.
-use Rattle.std.proofs.Common.{◌≡◌, ◌∙◌, ℕ, zero, suc, ◌+◌, ◌<◌, ◌≤◌, List, [], ◌∷◌, ◌++◌, length, take, drop, Option, Some, None, refl, sym, ap, add-one, arith, drop-cons}
+use Rattle.std.proofs.Common.{◌≡◌, ◌∙◌, ℕ, zero, suc, ◌+◌, ◌<◌, ◌≤◌, List, [], ◌∷◌, ◌++◌, length, take, drop, refl, sym, ap, add-one, arith, drop-cons}
 use Rattle.std.proofs.lemmas.List.{length-take, length-drop}
 use Rattle.std.specs.Prelude.{slice_index}
-use Rattle.xinu_model.specs.Files.Work.{copied}
 use Rattle.xinu_model.specs.Memory.{bytes_from, with_bytes}
 
 -- a range that is in a list, byte by byte
@@ -28,8 +27,3 @@ no_bytes memory at = let e : at + 0 ≡ at = omega arith in ap (λ k. take at me
     whole [] (suc i) = refl
     whole (x ∷ l) zero = refl
     whole (x ∷ l) (suc i) = ap (λ (m : List ℕ). x ∷ m) (whole l i)
-
--- and nothing is copied
-pub nothing_copied : (caller : Option ℕ) (at : ℕ) (memory : List ℕ) → copied caller at [] memory ≡ memory
-nothing_copied None at memory = refl
-nothing_copied (Some p) at memory = no_bytes memory at

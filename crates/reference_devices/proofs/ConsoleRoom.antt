@@ -1,12 +1,6 @@
 -- A sound console: what a character commits, and a byte that is sent, can be signalled.
-use Rattle.std.proofs.Common.{◌≡◌, ◌≤◌, ℕ, Bool, true, false, pos, ◌+ℤ◌, int_lt, ◌++◌, length, Some, refl, ap, arith}
+use Rattle.std.proofs.Common.{◌≡◌, ◌≤◌, ℕ, Bool, true, false, pos, ◌+ℤ◌, int_lt, refl, arith}
 use Rattle.std.proofs.lemmas.Int.{ints}
-use Rattle.std.proofs.lemmas.List.{length-append}
-use Rattle.part_laws.proofs.Consoles.Characters.{received_goes, controlled_goes}
-use Rattle.xinu_model.specs.Console.Controls.{controlled}
-use Rattle.xinu_model.specs.Console.Receiving.{received}
-use Rattle.xinu_model.specs.Console.Rows.{Committed}
-use Rattle.xinu_model.specs.Console.Sound.{IsSoundConsole}
 use Rattle.xinu_model.specs.Console.State.{Console}
 use Rattle.xinu_model.specs.Semaphores.Counts.{count_of, most_tokens}
 use Rattle.xinu_model.specs.Sound.Console.{IsConsole}
@@ -19,27 +13,6 @@ room_for x n few less = by_size (int_lt most_tokens (count_of x +ℤ pos n)) ref
     by_size : (b : Bool) → int_lt most_tokens (count_of x +ℤ pos n) ≡ b → int_lt most_tokens (count_of x +ℤ pos n) ≡ false
     by_size false e = e
     by_size true e = absurd (omega (arith, ints, e, few, less))
-
--- a character and a control function commit no more than there is room for
-pub few_received : (b : ℕ) (c : Console) → IsSoundConsole c → (received b c).count ≤ 128
-few_received b c k =
-    let g = received_goes b c in
-    let a = g.appends in
-    let input = (g.sound k).input in
-    let all : length (received b c).console.committed ≡ length (c.committed ++ a.items) = ap length a.committed in
-    let more = length-append c.committed a.items in
-    let count = a.count in
-    omega (arith, input, all, more, count)
-
-pub few_controlled : (f : ℕ) (c : Console) (m : Committed) → controlled f c ≡ Some m → IsSoundConsole c → m.count ≤ 128
-few_controlled f c m e k =
-    let g = controlled_goes f c m e in
-    let a = g.appends in
-    let input = (g.sound k).input in
-    let all : length m.console.committed ≡ length (c.committed ++ a.items) = ap length a.committed in
-    let more = length-append c.committed a.items in
-    let count = a.count in
-    omega (arith, input, all, more, count)
 
 -- The input can be signalled as often as a character or a control function commits items.
 pub input_room : (t : Tables) (c : Console) (n : ℕ) → IsConsole t c → n ≤ 128

@@ -1,7 +1,6 @@
 -- What a call that takes effect keeps.
 use Rattle.std.proofs.Common.{◌≡◌, ◌+◌, ◌-◌, ◌≤◌, ◌<◌, ℕ, suc, List, [], ◌∷◌, length, Option, Some, None, refl, ap, subst, sym, arith}
-use Rattle.std.proofs.lemmas.Bool.{cond_both}
-use Rattle.std.specs.Prelude.{nat_lt, slice_index_or}
+use Rattle.std.specs.Prelude.{slice_index_or}
 use Rattle.std.specs.List.{AllByRecursion}
 use Rattle.xinu_base.specs.declared.lines.FileMoment.{FileMoment}
 use Rattle.xinu_base.specs.declared.lines.FileMoment.TheVariants.{Finished, Next}
@@ -12,13 +11,9 @@ use Rattle.part_laws.proofs.FileWork.Sound.{works_completed}
 use Rattle.xinu_model.specs.Files.Calls.{FileCall, Open, Delete, Close, Read, Write, Getc, Putc, Seek, Truncate, Size}
 use Rattle.xinu_model.specs.Files.Sound.{HasBytes, InRam, IsFileRequest, IsFirst, IsSoundWork}
 use Rattle.xinu_model.specs.Files.Systems.{FileSystem, OpenFile, open_at}
-use Rattle.xinu_model.specs.Files.Work.{FileRequest, FileStep, FileWork, byte_count, first_effect, least_effects, most_turns, next_effects, size_at, size_for}
+use Rattle.xinu_model.specs.Files.Work.{FileRequest, FileStep, FileWork, byte_count, first_effect, next_effects, size_at, size_for}
 use Rattle.xinu_model.specs.Memory.{ram_size}
-
--- at most one has to take effect
-pub one_at_most : (calls : List FileRequest) (w : FileWork) → least_effects calls w ≤ 1
-one_at_most [] w = omega arith
-one_at_most (a ∷ calls) w = cond_both (nat_lt (w.turns + 1) (most_turns a.call w.system)) 0 1 (λ n. n ≤ 1) (λ _. omega arith) (λ _. omega arith)
+use Rattle.xinu_model.proofs.FileOutcomes.{one_at_most}
 
 -- the calls under way stay sound as the first takes effect, whatever is said of it,
 same_work : (calls : List FileRequest) (moment : FileMoment) (x : FileStep)

@@ -1,13 +1,11 @@
 -- Sound pools: the free buffers of each are its own, and each can be signalled.
-use Rattle.std.proofs.Common.{◌≡◌, ℕ, ◌<◌, ◌≤◌, true, int_lt, List, length, subst, sym, ⊎_elim, arith}
+use Rattle.std.proofs.Common.{ℕ, ◌<◌, ◌≤◌, List, length, subst, sym, ⊎_elim}
 use Rattle.std.proofs.Math.ListN.{get_or-eq_default}
 use Rattle.std.proofs.lemmas.Bool.{cases_lt}
-use Rattle.std.proofs.lemmas.Int.{ints}
 use Rattle.reference_ports.specs.FreeBuffers.{HasOwnFree}
 use Rattle.xinu_model.specs.Pools.Buffers.{BufferPool, no_pool, pool_at}
-use Rattle.xinu_model.specs.Semaphores.Counts.{count_of, most_tokens}
 use Rattle.xinu_model.specs.Sound.Pools.{ArePools}
-use Rattle.xinu_model.specs.Tables.{Semaphore, Tables}
+use Rattle.xinu_model.specs.Tables.{Tables}
 
 -- what isn't there reads as no pool, which has no buffers
 pub own_free : (t : Tables) (pools : List BufferPool) (i : ℕ) → ArePools t pools → HasOwnFree (pool_at pools i)
@@ -15,7 +13,3 @@ own_free t pools i a = ⊎_elim
     (λ (l : i < length pools). record { own = (a.each i l).buffers })
     (λ (l : length pools ≤ i). subst HasOwnFree (sym (get_or-eq_default pools no_pool l)) (record { own = tt }))
     (cases_lt i (length pools))
-
--- a semaphore with few tokens can be signalled
-pub few_tokens : (x : Semaphore) (n : ℕ) → x.tokens < n → n ≤ 2147483647 → int_lt (count_of x) most_tokens ≡ true
-few_tokens x n h g = grind (arith, ints)

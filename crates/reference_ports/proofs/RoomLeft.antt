@@ -1,8 +1,7 @@
 -- Sound ports have room, also once a token is taken or a process moved.
-use Rattle.std.proofs.Common.{◌≡◌, ℕ, zero, suc, ◌≤◌, true, false, nat_le, int_lt, List, [], ◌∷◌, length, set, get_or, Option, Some, subst, sym, arith}
+use Rattle.std.proofs.Common.{◌≡◌, ℕ, ◌≤◌, true, false, nat_le, int_lt, List, length, Option, Some, subst, sym, arith}
 use Rattle.std.proofs.lemmas.Bool.{leb-false}
 use Rattle.reference_ports.specs.PortRoom.{HaveRoom}
-use Rattle.reference_ports.proofs.FreeRoom.{few_tokens}
 use Rattle.reference_ports.proofs.TokenTaken.{IsTaken}
 use Rattle.table_laws.proofs.Frame.MoveTo.{tokens_move}
 use Rattle.xinu_base.specs.declared.processes.Process.{Process}
@@ -10,7 +9,8 @@ use Rattle.xinu_model.specs.Machine.{Xinu}
 use Rattle.xinu_model.specs.Ports.Queues.{MessagePort, most_nodes, nodes, port_at, PortQueue}
 use Rattle.xinu_model.specs.Semaphores.Counts.{count_of, most_tokens, with_tokens}
 use Rattle.xinu_model.specs.Sound.Ports.{ArePorts}
-use Rattle.xinu_model.specs.Tables.{move_to, no_semaphore, Nowhere, Semaphore, semaphore_at, Tables}
+use Rattle.xinu_model.specs.Tables.{move_to, Nowhere, semaphore_at, Tables}
+use Rattle.table_laws.proofs.PortRoom.{fewer_set, one_of_nodes, few_tokens}
 
 -- sound ports have room, also if some tokens are gone
 have_room : (t u : Tables) (ports : List MessagePort) → ArePorts t ports
@@ -24,18 +24,6 @@ have_room t u ports a fewer = record {
       let n = k.room in
       record { messages = omega (arith, r, m); room = omega (arith, s, n) });
 }
-
--- fewer tokens of one semaphore are no more of any
-fewer_set : (l : List Semaphore) (sem r n : ℕ) → n ≤ (get_or l sem no_semaphore).tokens
-    → (get_or (set l sem (record (get_or l sem no_semaphore) { tokens = n })) r no_semaphore).tokens ≤ (get_or l r no_semaphore).tokens
-fewer_set [] zero zero n h = omega arith
-fewer_set [] zero (suc r) n h = omega arith
-fewer_set [] (suc sem) zero n h = omega arith
-fewer_set [] (suc sem) (suc r) n h = omega arith
-fewer_set (x ∷ l) zero zero n h = h
-fewer_set (x ∷ l) zero (suc r) n h = omega arith
-fewer_set (x ∷ l) (suc sem) zero n h = omega arith
-fewer_set (x ∷ l) (suc sem) (suc r) n h = fewer_set l sem r n h
 
 -- once a token is taken
 pub room_taken : (sem : ℕ) (s u : Xinu) → IsTaken sem s u → ArePorts s.tables s.parts.ports → HaveRoom u.tables u.parts.ports
@@ -51,13 +39,6 @@ pub room_goes_on : (s : Xinu) (x : Process) (m : Option ℕ) → ArePorts s.tabl
 room_goes_on s x m a =
     have_room s.tables (move_to s.tables.current x m Nowhere s.tables) s.parts.ports a
     (λ r. (let e = tokens_move s.tables s.tables.current x m Nowhere r in omega (arith, e)))
-
--- a port holds no more messages than all do
-one_of_nodes : (ports : List MessagePort) (q : ℕ) (queue : PortQueue) → (port_at ports q).queue ≡ Some queue → length queue.messages ≤ nodes ports
-one_of_nodes [] zero queue e = absurd (cc)
-one_of_nodes [] (suc q) queue e = absurd (cc)
-one_of_nodes (port ∷ ports) zero queue e = rw e (omega arith)
-one_of_nodes (port ∷ ports) (suc q) queue e = (let h = one_of_nodes ports q queue e in omega (arith, h))
 
 -- While not all ports together are full, the receivers of each can be signalled.
 pub receivers_room : (t : Tables) (ports : List MessagePort) (q : ℕ) (queue : PortQueue) → (port_at ports q).queue ≡ Some queue

@@ -25,7 +25,6 @@ use Rattle.table_laws.proofs.Lists.Counts.{count_behind, count_last_other, first
 use Rattle.table_laws.proofs.Lists.Orders.{all_weaker}
 use Rattle.table_laws.proofs.Tables.MoveTo.{by_number, within_table, state_move_same, state_move_other}
 use Rattle.table_laws.proofs.Tables.Places.{semaphore_at_without}
-use Rattle.table_laws.proofs.Tables.States.{is_ready_of}
 use Rattle.table_laws.proofs.Tables.Unblock.{IsOneOf, all_are_of, all_counted, unblock_all_with_ready, waiter_waits}
 use Rattle.xinu_laws.proofs.Preserve.Semaphores.{good_semaphore}
 use Rattle.scheduling_laws.specs.Tokens.{changes, changes_semaphore, living}
@@ -37,6 +36,7 @@ use Rattle.scheduling_laws.proofs.Passes.Events.{IsCarried, carried_where}
 use Rattle.scheduling_laws.proofs.Resched.{by_resched, by_tick}
 use Rattle.scheduling_laws.proofs.Waiters.{waiters_given, waiters_left, waiters_moved}
 use Rattle.scheduling_laws.proofs.Waking.{never_due}
+use Rattle.xinu_model.proofs.States.{is_ready_of}
 
 -- two tests that agree on each element of a list filter it alike
 pub filter_agrees : (f g : ℕ → Bool) (l : List ℕ) → ((p : ℕ) → 0 < count_in p l → f p ≡ g p) → filter f l ≡ filter g l

@@ -13,10 +13,11 @@ use Rattle.xinu_model.specs.Tables.{Tables, process_at, state_at, message_at, en
 use Rattle.table_laws.proofs.Lists.Counts.{first_has_entry}
 use Rattle.table_laws.proofs.Lists.Orders.{all_filter, all_weaker}
 use Rattle.table_laws.proofs.Tables.MoveTo.{within_table, process_move_same}
-use Rattle.table_laws.proofs.Tables.Scheduling.{current_of, inside_quantum, ready_of, room_made}
+use Rattle.table_laws.proofs.Tables.Scheduling.{current_of, inside_quantum, room_made}
 use Rattle.table_laws.proofs.Tables.Ticks.{sound_later}
 use Rattle.table_laws.proofs.Tables.Unblock.{unblock_all_ready}
 use Rattle.scheduling_laws.specs.Policy.{IsHighest}
+use Rattle.xinu_model.proofs.States.{ready_of}
 
 -- a key that is less isn't above
 below : (a k : ℤ) → int_lt a k ≡ true → a ≤ℤ k

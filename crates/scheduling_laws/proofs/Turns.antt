@@ -20,7 +20,7 @@ use Rattle.table_laws.proofs.Lists.Counts.{count_last_other, first_has_entry, en
 use Rattle.table_laws.proofs.Lists.Orders.{all_both, all_ready_in}
 use Rattle.table_laws.proofs.Tables.MoveTo.{by_number, within_table, process_move_same, process_move_other, state_move_same, state_move_other}
 use Rattle.table_laws.proofs.Tables.Places.{ready_in_other}
-use Rattle.table_laws.proofs.Tables.Scheduling.{inside_quantum, ready_of, room_made}
+use Rattle.table_laws.proofs.Tables.Scheduling.{inside_quantum, room_made}
 use Rattle.table_laws.proofs.Tables.Ticks.{sound_later}
 use Rattle.table_laws.proofs.Tables.Unblock.{all_take, IsOneOf, unblock_all_ready}
 use Rattle.scheduling_laws.specs.RoundRobin.{WaitsItsTurn}
@@ -31,6 +31,7 @@ use Rattle.scheduling_laws.proofs.Passes.Events.{IsCarried}
 use Rattle.scheduling_laws.proofs.Resched.{by_resched, itself}
 use Rattle.scheduling_laws.proofs.Waiters.{all_others, waiters_given, waiters_left, waiters_moved}
 use Rattle.scheduling_laws.proofs.Waking.{never_due}
+use Rattle.xinu_model.proofs.States.{ready_of}
 
 -- a key of at least k isn't below one of at most k
 not_both : (a k top : ℤ) → k ≤ℤ a → int_lt a top ≡ true → top ≤ℤ k → ⊥

@@ -8,7 +8,7 @@ use Rattle.xinu_base.specs.declared.events.Event.{Event}
 use Rattle.xinu_laws.proofs.PlainSteps.{run_after}
 use Rattle.xinu_model.specs.Machine.{Xinu}
 use Rattle.xinu_model.specs.Runs.{RunsTo}
-use Rattle.xinu_commands.proofs.SoFar.{SoFar}
+use Rattle.machine.proofs.SoFar.{SoFar}
 use Rattle.xinu_commands.specs.PlainSteps.{ArePlainSteps}
 
 -- fewer copies come first too

@@ -12,6 +12,17 @@ use Rattle.xinu_model.specs.Files.Calls.{file_effect}
 use Rattle.xinu_model.specs.Files.Systems.{FileSystem}
 use Rattle.xinu_model.specs.Files.Work.{FileRequest, FileWork, FileNote, FileStep, had_turn, took_effect, with_first, first_effect, next_effects, turned, calls_completed, least_effects, most_turns}
 use Rattle.xinu_model.specs.Machine.{Xinu, CallResult, return_line, switched, end_of_event, replies_of, closed}
+use Rattle.std.proofs.Common.{◌≡◌, ℕ, suc, ◌+◌, ◌==◌, List, [], ◌∷◌, ◌++◌, take, drop, Option, Some, None, refl, ap, ◌∙◌, arith, append-nil, take-append-drop, ℤ}
+use Rattle.std.proofs.lemmas.Bool.{cond_both}
+use Rattle.xinu_model.specs.Files.Syscalls.{files_of, file_step, told}
+use Rattle.xinu_model.specs.Files.Systems.{replies}
+use Rattle.xinu_model.specs.Files.Work.{FileRequest, FileWork, FileNote, copied, calls_completed}
+use Rattle.xinu_model.specs.Machine.{Xinu}
+use Rattle.std.proofs.Common.{◌≡◌, ◌+◌, ◌-◌, ◌≤◌, ℕ, suc, List, [], ◌∷◌, length, Option, Some, None, refl, ap, arith}
+use Rattle.std.specs.Prelude.{nat_lt}
+use Rattle.xinu_base.specs.declared.lines.FileMoment.TheVariants.{Finished, Next}
+use Rattle.xinu_model.specs.Files.Systems.{FileSystem}
+use Rattle.xinu_model.specs.Files.Work.{FileRequest, FileStep, FileWork, first_effect, least_effects, most_turns, next_effects}
 
 -- how many effects a line tells of, and lines
 abbrev pub tells_effect : TranscriptLine → ℕ
@@ -174,3 +185,16 @@ completed_no_next (a ∷ calls) c s e =
         → begins_next ((note_lines notes ++ replies) ++ end) ≡ false
     begins n ns notes replies end is first =
         ap (λ l. begins_next ((note_lines l ++ replies) ++ end)) is ∙ by_moment n.moment (unwrap_or n.caller 0) ((note_lines ns ++ replies) ++ end) first
+
+-- nothing comes to RAM from a call that brings nothing
+pub nothing_brought : (caller : Option ℕ) (at : ℕ) (memory : List ℕ) → copied caller at [] memory ≡ memory
+nothing_brought None at memory = refl
+nothing_brought (Some p) at memory =
+    let same : at + 0 ≡ at = omega arith in
+    ap (λ l. l ++ drop (at + 0) memory) (append-nil (take at memory)) ∙ ap (λ n. take at memory ++ drop n memory) same
+    ∙ take-append-drop at memory
+
+-- at most one has to take effect
+pub one_at_most : (calls : List FileRequest) (w : FileWork) → least_effects calls w ≤ 1
+one_at_most [] w = omega arith
+one_at_most (a ∷ calls) w = cond_both (nat_lt (w.turns + 1) (most_turns a.call w.system)) 0 1 (λ n. n ≤ 1) (λ _. omega arith) (λ _. omega arith)

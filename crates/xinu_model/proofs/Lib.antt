@@ -1,8 +1,11 @@
 pub mod FileOutcomes
 pub mod Heap
+pub mod NameTimes
 pub mod Outcomes
+pub mod ProcessNames
 pub mod Runs
 pub mod Searches
+pub mod States
 pub mod Stops
 pub mod WholeRam
 pub mod ZeroRegister

@@ -5,6 +5,7 @@ use Rattle.std.proofs.lemmas.Bool.{cond_both, cond-true, cond-false, ne_eqb, leb
 use Rattle.xinu_model.specs.Names.Constants.{NM_MAXLEN, NM_MAXMAPS, NAMESPACE}
 use Rattle.xinu_model.specs.Names.Mapping.{MappedName, fits_row, first_row, replaced, short_enough, replaced_by, replaced_once, replaced_times, map_name}
 use Rattle.xinu_model.specs.Names.Mounting.{NameRow}
+use Rattle.xinu_model.proofs.NameTimes.{nothing_left}
 
 -- a name that isn't too long, if there is one
 abbrev pub IsShort : Option MappedName → Type 0
@@ -49,11 +50,6 @@ first_step : (n : ℕ) (rows : List NameRow) (name : List ℕ) → length name �
 first_step n rows name h =
     ap (replaced_times (suc n) rows) (cond-true (nat_le (length name) NM_MAXLEN) _ _ (le-leb (length name) NM_MAXLEN h))
 
--- nothing stays nothing
-nothing_stays : (n : ℕ) (rows : List NameRow) → replaced_times n rows None ≡ None
-nothing_stays zero rows = refl
-nothing_stays (suc n) rows = refl
-
 -- a name that no prefix begins
 pub no_row : (rows : List NameRow) (name : List ℕ) → first_row name rows ≡ None → map_name rows name ≡ None
 no_row rows name e =
@@ -66,7 +62,7 @@ other_stays : (n : ℕ) (rows : List NameRow) (m : MappedName) → m.device ≢ 
     → replaced_times n rows (short_enough m) ≡ short_enough m
 other_stays n rows m other =
     cond_both (nat_le (length m.name) NM_MAXLEN) (Some m) None (λ o. replaced_times n rows o ≡ o)
-    (λ _. by_number n) (λ _. nothing_stays n rows)
+    (λ _. by_number n) (λ _. nothing_left n rows)
   where
     by_number : (n : ℕ) → replaced_times n rows (Some m) ≡ Some m
     by_number zero = cond-false (m.device == NAMESPACE) _ _ (ne_eqb m.device NAMESPACE other)
@@ -130,7 +126,7 @@ times_more (suc n) rows more (Some x) m e =
     by_step : ((o : Option MappedName) (m : MappedName) → replaced_times n rows o ≡ Some m → replaced_times n (rows ++ more) o ≡ Some m)
         → (o : Option MappedName) → replaced_once rows x.name ≡ o → replaced_times n rows o ≡ Some m
         → replaced_times n (rows ++ more) (replaced_once (rows ++ more) x.name) ≡ Some m
-    by_step go None at f = let none = nothing_stays n rows in cc
+    by_step go None at f = let none = nothing_left n rows in cc
     by_step go (Some y) at f = ap (replaced_times n (rows ++ more)) (once_more rows more x.name y at) ∙ go (Some y) m f
 
 pub later_rows : (rows more : List NameRow) (name : List ℕ) (m : MappedName) → map_name rows name ≡ Some m

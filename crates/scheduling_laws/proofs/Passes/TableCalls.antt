@@ -22,13 +22,14 @@ use Rattle.xinu_model.specs.Sound.Tables.{IsSoundTables}
 use Rattle.xinu_model.specs.Tables.{no_semaphore, Tables, process_at, state_at, is_free, Nowhere, InSleepers}
 use Rattle.table_laws.proofs.Tables.Deaths.{sent_changes}
 use Rattle.table_laws.proofs.Tables.Found.{free_process_free, free_semaphore_free}
-use Rattle.table_laws.proofs.Tables.States.{is_ready_of, suspended_of}
+use Rattle.table_laws.proofs.Tables.States.{suspended_of}
 use Rattle.scheduling_laws.proofs.Moves.{Goes, Settled, IsClosed}
 use Rattle.std.specs.Prelude.{max}
 use Rattle.xinu_model.specs.Process.Calls.{resume}
 use Rattle.xinu_model.specs.Semaphores.Calls.{semdelete, signal}
 use Rattle.xinu_model.specs.Messages.{send}
 use Rattle.scheduling_laws.proofs.Passes.Steps.{refused_settles, either_settles, blocked_settles, await_settles, inside_tokens, inside_signalled, inside_signalled_times, inside_emptied, inside_delivered, inside_sent, holds_made}
+use Rattle.xinu_model.proofs.States.{is_ready_of}
 
 module _ {May Touch : ℕ → Type 0} {Begins : Tables → Type 0} {Holds : Tables → Bool → Type 0} (k : IsClosed May Touch Begins Holds) where
   -- what begins a call lets its caller go on

@@ -4,6 +4,9 @@ use Rattle.std.proofs.lemmas.Bool.{true≢false, false≢true, cond_both, eqb-tr
 use Rattle.xinu_base.specs.Insert.{insert}
 use Rattle.xinu_model.specs.Sound.Tables.{times, total, entries_of, count_in}
 use Rattle.xinu_model.specs.Tables.{entries_without, numbers_without}
+use Rattle.std.proofs.Common.{◌≡◌, ◌≢◌, ℕ, zero, suc, ◌+◌, ◌-◌, ◌<◌, ◌≤◌, ◌==◌, true, not, List, [], ◌∷◌, ◌++◌, length, refl, sym, ap, subst, ◌∙◌, arith}
+use Rattle.std.proofs.lemmas.Bool.{cond_both, eq-eqb, eqb-true, ne_eqb}
+use Rattle.xinu_model.specs.Sound.Tables.{count_in}
 
 -- one element more, if it passes, before a part of a count
 count_left : (a : Bool) (m n : ℕ) → cond a (suc m) m + n ≡ cond a (suc (m + n)) (m + n)
@@ -200,3 +203,13 @@ absent_step false x xs ys n z h = ap (λ l. x ∷ l) (h z)
 pub filter_absent : {A : Type 0} (test : A → Bool) (l : List A) → times test l ≡ 0 → filter (λ x. not (test x)) l ≡ l
 filter_absent test [] z = refl
 filter_absent test (x ∷ xs) z = absent_step (test x) x xs (filter (λ y. not (test y)) xs) (times test xs) z (filter_absent test xs)
+
+-- a number that isn't in a list of distinct ones may stand before it
+pub distinct_with : (x a : ℕ) (l : List ℕ) → count_in a l ≡ 0 → count_in x l ≤ 1 → count_in x (a ∷ l) ≤ 1
+distinct_with x a l none h = cond_both (a == x) (suc (count_in x l)) (count_in x l) (λ n. n ≤ 1)
+    (λ b. let e : count_in x l ≡ 0 = subst (λ k. count_in k l ≡ 0) (eqb-true a x b) none in omega arith) (λ _. h)
+
+-- one more number can only add
+pub count_more : (x a : ℕ) (l : List ℕ) → count_in x l ≤ count_in x (a ∷ l)
+count_more x a l = cond_both (a == x) (suc (count_in x l)) (count_in x l) (λ n. count_in x l ≤ n) (λ _. omega arith)
+    (λ _. omega arith)

@@ -11,8 +11,9 @@ use Rattle.xinu_model.specs.Sound.Tables.{count_in, ready_places, waiting_places
 use Rattle.xinu_model.specs.Tables.{no_process, Semaphore, no_semaphore, Tables, process_at, state_at, message_at, semaphore_at}
 use Rattle.table_laws.proofs.Lists.Counts.{none_counted, total-set}
 use Rattle.table_laws.proofs.Lists.Orders.{all_weaker, all_both, all_have_entries}
-use Rattle.table_laws.proofs.Tables.Scheduling.{ready_of, inside_last_semaphore}
+use Rattle.table_laws.proofs.Tables.Scheduling.{inside_last_semaphore}
 use Rattle.table_laws.proofs.Tables.MoveTo.{by_number}
+use Rattle.xinu_model.proofs.States.{ready_of}
 
 -- a process that is written in its old state is in that state, and so are the others
 pub state_written : (t : Tables) (q : ℕ) (x : Process) → length t.processes ≡ 64 → q < 64 → x.state ≡ state_at t q

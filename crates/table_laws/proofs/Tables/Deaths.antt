@@ -24,17 +24,6 @@ use Rattle.xinu_model.specs.Sound.State.{AreHarts}
 pub listens_idle : (s : State) → listens s ≡ true → s ≢ Current
 listens_idle s h e = let f = ap listens e in cc
 
--- who passes the test of a free number is free
-pub free_of : (s : State) → is_free s ≡ true → s ≡ Free
-free_of Free h = refl
-free_of Ready h = cc
-free_of Current h = cc
-free_of Suspended h = cc
-free_of Receiving h = cc
-free_of Sleeping h = cc
-free_of Waiting h = cc
-free_of Timed h = cc
-
 -- who doesn't isn't
 pub not_free : (s : State) → is_free s ≡ false → s ≢ Free
 not_free s h e = let f = ap is_free e in cc

@@ -6,7 +6,7 @@ use Rattle.xinu_model.specs.Process.Creation.{free_process}
 use Rattle.xinu_model.specs.Semaphores.Counts.{free_semaphore}
 use Rattle.xinu_model.specs.Tables.{Tables, state_at, is_free, semaphore_at}
 use Rattle.table_laws.proofs.Lists.Searches.{search_passes, search_within}
-use Rattle.table_laws.proofs.Tables.Deaths.{free_of}
+use Rattle.xinu_model.proofs.States.{free_of}
 
 -- a search for a free number finds one that is free
 pub free_process_free : (t : Tables) (p : ℕ) → free_process t ≡ Some p → state_at t p ≡ Free

@@ -10,32 +10,11 @@ use Rattle.xinu_base.specs.declared.processes.State.{State}
 use Rattle.xinu_base.specs.declared.processes.State.TheVariants.{Free, Current, Ready, Receiving, Sleeping, Suspended, Waiting, Timed}
 use Rattle.table_laws.specs.Moves.{CanBeReady, CanMove}
 use Rattle.xinu_model.specs.Process.Scheduling.{is_current, in_state, ready, dispatch, dispatch_first, preempt, keeps_cpu, resched}
-use Rattle.xinu_model.specs.Sound.Tables.{entries_of, ready_places, waiting_places, sleeping_places, HoldsFor, FitsMessage, IsInside, IsSoundTables}
+use Rattle.xinu_model.specs.Sound.Tables.{entries_of, ready_places, sleeping_places, HoldsFor, FitsMessage, IsInside, IsSoundTables}
 use Rattle.xinu_model.specs.Tables.{Tables, process_at, state_at, message_at, Place, Nowhere, InReady, move_to}
 use Rattle.table_laws.proofs.Lists.Counts.{first_has_entry}
 use Rattle.table_laws.proofs.Tables.MoveTo.{by_number, within_table, state_move_same, state_move_other, inside_move}
-
--- who is in the ready list is ready
-pub ready_of : (s : State) → 0 < ready_places s → s ≡ Ready
-ready_of Ready h = refl
-ready_of Free h = absurd (omega arith)
-ready_of Current h = absurd (omega arith)
-ready_of Receiving h = absurd (omega arith)
-ready_of Sleeping h = absurd (omega arith)
-ready_of Suspended h = absurd (omega arith)
-ready_of Waiting h = absurd (omega arith)
-ready_of Timed h = absurd (omega arith)
-
--- who is among the waiters waits
-pub waiting_of : (s : State) → 0 < waiting_places s → s ≡ Waiting
-waiting_of Waiting h = refl
-waiting_of Free h = absurd (omega arith)
-waiting_of Current h = absurd (omega arith)
-waiting_of Receiving h = absurd (omega arith)
-waiting_of Sleeping h = absurd (omega arith)
-waiting_of Suspended h = absurd (omega arith)
-waiting_of Ready h = absurd (omega arith)
-waiting_of Timed h = absurd (omega arith)
+use Rattle.xinu_model.proofs.States.{ready_of}
 
 -- who is among the sleepers sleeps, or waits for a message for some time
 pub sleeping_of : (s : State) → 0 < sleeping_places s → (s ≡ Sleeping) ⊎ (s ≡ Timed)

@@ -2,7 +2,7 @@
 use Rattle.std.proofs.Common.{◌≡◌, true, refl}
 use Rattle.xinu_base.specs.declared.processes.State.{State}
 use Rattle.xinu_base.specs.declared.processes.State.TheVariants.{Free, Current, Ready, Receiving, Sleeping, Suspended, Waiting, Timed}
-use Rattle.xinu_model.specs.Process.Calls.{is_suspended, is_ready}
+use Rattle.xinu_model.specs.Process.Calls.{is_suspended}
 
 -- who passes the test is suspended
 pub suspended_of : (s : State) → is_suspended s ≡ true → s ≡ Suspended
@@ -14,14 +14,3 @@ suspended_of Receiving h = cc
 suspended_of Sleeping h = cc
 suspended_of Waiting h = cc
 suspended_of Timed h = cc
-
--- who passes the test is ready
-pub is_ready_of : (s : State) → is_ready s ≡ true → s ≡ Ready
-is_ready_of Ready h = refl
-is_ready_of Free h = cc
-is_ready_of Current h = cc
-is_ready_of Suspended h = cc
-is_ready_of Receiving h = cc
-is_ready_of Sleeping h = cc
-is_ready_of Waiting h = cc
-is_ready_of Timed h = cc

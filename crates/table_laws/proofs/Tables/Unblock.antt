@@ -15,10 +15,11 @@ use Rattle.xinu_model.specs.Sound.Tables.{count_in, HasOneKind, HoldsFor, IsInsi
 use Rattle.xinu_model.specs.Tables.{Semaphore, no_semaphore, Tables, process_at, state_at, message_at, semaphore_at, numbers_without, InReady}
 use Rattle.table_laws.proofs.Tables.Changes.{inside_tokens, sound_tokens}
 use Rattle.table_laws.proofs.Lists.Counts.{first_is_counted, count_behind, get_or-le-total}
-use Rattle.table_laws.proofs.Tables.Scheduling.{waiting_of, holds_at, inside_ready, sound_ready}
+use Rattle.table_laws.proofs.Tables.Scheduling.{holds_at, inside_ready, sound_ready}
 use Rattle.table_laws.proofs.Lists.Orders.{all_weaker}
 use Rattle.table_laws.proofs.Tables.Places.{semaphore_at_without}
 use Rattle.table_laws.proofs.Tables.MoveTo.{by_number, within_table, process_move_same, process_move_other, message_move_same, message_move_other}
+use Rattle.xinu_model.proofs.States.{waiting_of}
 
 -- Who is released becomes ready, and nothing else of the state changes.
 pub unblock_all_with_ready : (value : ℤ) (ps : List ℕ) (d : CallState)

@@ -1,5 +1,5 @@
 -- What a caller of files answers: what its call replies as it takes effect, at a completion or as it is made.
-use Rattle.std.proofs.Common.{◌≡◌, ℕ, suc, ◌+◌, ◌==◌, cond, List, [], ◌∷◌, ◌++◌, take, drop, Option, Some, None, refl, sym, ap, subst, ◌∙◌, arith, append_assoc, append-nil, take-append-drop, ℤ}
+use Rattle.std.proofs.Common.{◌≡◌, ℕ, suc, ◌+◌, ◌==◌, cond, List, [], ◌∷◌, ◌++◌, Option, Some, None, refl, sym, ap, subst, ◌∙◌, arith, append_assoc, ℤ}
 use Rattle.std.proofs.lemmas.Bool.{cond_both, eq-eqb}
 use Rattle.xinu_base.specs.Constants.{SYSERR}
 use Rattle.xinu_base.specs.declared.lines.FileMoment.{FileMoment}
@@ -24,6 +24,7 @@ use Rattle.part_laws.proofs.FileWork.Order.{told_append}
 use Rattle.table_laws.proofs.Lists.Counts.{times-append}
 use Rattle.xinu_laws.proofs.RawDisks.Moves.{first_once, first_within}
 use Rattle.table_laws.proofs.Tables.MoveTo.{by_number, process_move_same, process_move_other}
+use Rattle.xinu_model.proofs.FileOutcomes.{nothing_brought}
 
 -- p is ready, and has a reply
 abbrev pub HasBeenTold : ℕ → ℤ → CallState → Type 0
@@ -118,14 +119,6 @@ pub call_queued : (calls : List FileRequest) (a : FileRequest) (memory : List �
     → (queued_after calls a memory w).calls ≡ w.calls ++ a ∷ []
 call_queued [] a memory w e = ap (λ l. l ++ a ∷ []) (sym e)
 call_queued (b ∷ calls) a memory w e = ap (λ l. l ++ a ∷ []) (sym e)
-
--- nothing comes to RAM from a call that brings nothing
-nothing_brought : (caller : Option ℕ) (at : ℕ) (memory : List ℕ) → copied caller at [] memory ≡ memory
-nothing_brought None at memory = refl
-nothing_brought (Some p) at memory =
-    let same : at + 0 ≡ at = omega arith in
-    ap (λ l. l ++ drop (at + 0) memory) (append-nil (take at memory)) ∙ ap (λ n. take at memory ++ drop n memory) same
-    ∙ take-append-drop at memory
 
 -- no call is under way
 no_calls : (w : FileWork) → w.calls ≡ [] → w.turns ≡ 0 → w.bytes ≡ []

@@ -1,8 +1,8 @@
 -- What holds of the pools is kept if one of them changes.
-use Rattle.std.proofs.Common.{◌≡◌, ◌≢◌, ℕ, suc, ◌+◌, ◌<◌, ◌≤◌, ◌==◌, true, not, List, ◌∷◌, length, set, refl, sym, ap, subst, ◌∙◌, arith, get_or-set_same, get_or-set_other}
+use Rattle.std.proofs.Common.{◌≡◌, ◌≢◌, ℕ, suc, ◌+◌, ◌<◌, ◌≤◌, true, not, List, ◌∷◌, length, set, refl, sym, ap, subst, ◌∙◌, arith, get_or-set_same, get_or-set_other}
 use Rattle.std.proofs.Math.ListN.{length-set}
 use Rattle.std.specs.List.{AllByRecursion}
-use Rattle.std.proofs.lemmas.Bool.{and_parts, cond_both, eq-eqb, eqb-true, not-true}
+use Rattle.std.proofs.lemmas.Bool.{and_parts, eq-eqb, not-true}
 use Rattle.std.proofs.lemmas.List.{set-get_or}
 use Rattle.xinu_base.specs.declared.processes.Rest.TheVariants.{GetBuf}
 use Rattle.xinu_model.specs.Memory.{ranges_meet}
@@ -15,6 +15,7 @@ use Rattle.table_laws.proofs.Frame.MoveTo.{same_written}
 use Rattle.table_laws.proofs.Buffers.{is_out_uncounted, held_taken, held_put_back}
 use Rattle.xinu_laws.proofs.Pools.Frame.{is_pool, sound_pool_framed}
 use Rattle.table_laws.proofs.Tables.MoveTo.{by_number}
+use Rattle.table_laws.proofs.Lists.Counts.{distinct_with, count_more}
 
 -- how many buffers of pool i are promised: the tokens of its semaphore, and those who were released and haven't taken theirs
 abbrev pub promised : ℕ → ℕ → Tables → ℕ
@@ -25,10 +26,6 @@ pub pool_kept : (t u : Tables) (i : ℕ) (pool : BufferPool) → IsSoundPool t i
     → (semaphore_at u pool.semaphore).owner ≡ (semaphore_at t pool.semaphore).owner
     → promised i pool.semaphore u ≤ promised i pool.semaphore t → IsSoundPool u i pool
 pool_kept t u i pool k e h = record { owner = e ∙ k.owner; within = k.within; buffers = k.buffers; distinct = k.distinct; number = k.number; enough = (let f = k.enough in omega arith) }
-
--- one in front can only add
-count_in_front : (x a : ℕ) (l : List ℕ) → count_in x l ≤ count_in x (a ∷ l)
-count_in_front x a l = cond_both (a == x) (suc (count_in x l)) (count_in x l) (λ n. count_in x l ≤ n) (λ _. omega arith) (λ _. omega arith)
 
 -- A buffer is taken, and one less is promised.
 pub pool_taken : (t u : Tables) (i : ℕ) (pool : BufferPool) (a : ℕ) (free : List ℕ) → IsSoundPool t i pool → pool.free ≡ a ∷ free
@@ -42,15 +39,10 @@ pool_taken t u i pool a free k e o h =
       owner = o ∙ k.owner;
       within = k.within;
       buffers = all.1;
-      distinct = λ x. (let f = count_in_front x a free in let g : count_in x (a ∷ free) ≤ 1 = subst (λ l. count_in x l ≤ 1) e (k.distinct x) in omega arith);
+      distinct = λ x. (let f = count_more x a free in let g : count_in x (a ∷ free) ≤ 1 = subst (λ l. count_in x l ≤ 1) e (k.distinct x) in omega arith);
       number = (let f = held_taken a pool free e all.0 (k.distinct a) in let g = k.number in omega arith);
       enough = (let f = k.enough in omega arith);
     }
-
--- a number that isn't in a list of distinct ones stands before it
-distinct_with : (x a : ℕ) (l : List ℕ) → count_in a l ≡ 0 → count_in x l ≤ 1 → count_in x (a ∷ l) ≤ 1
-distinct_with x a l none h = cond_both (a == x) (suc (count_in x l)) (count_in x l) (λ n. n ≤ 1)
-    (λ b. let e : count_in x l ≡ 0 = subst (λ k. count_in k l ≡ 0) (eqb-true a x b) none in omega arith) (λ _. h)
 
 -- A held buffer is put back, and one more is promised at most.
 pub pool_put_back : (t u : Tables) (i : ℕ) (pool : BufferPool) (a : ℕ) → IsSoundPool t i pool → is_held a pool ≡ true

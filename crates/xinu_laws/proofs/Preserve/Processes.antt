@@ -1,13 +1,12 @@
 -- The calls on processes keep what holds of the tables.
-use Rattle.std.proofs.Common.{◌≡◌, ◌≢◌, ℕ, ◌<◌, ◌==◌, not, ◌||◌, List, refl, sym, subst, ◌∙◌, ⊎_elim, inr, ap, false, Option, Some, None, ℤ, pos}
+use Rattle.std.proofs.Common.{◌≡◌, ◌≢◌, ℕ, ◌<◌, ◌==◌, not, ◌||◌, List, refl, sym, subst, ◌∙◌, ⊎_elim, inr, Option, Some, None, ℤ, pos}
 use Rattle.std.specs.Prelude.{int_lt, drop, slice_set, take}
 use Rattle.std.proofs.lemmas.Bool.{cond_both, or_parts, eqb-false}
 use Rattle.xinu_base.specs.declared.processes.Process.{Process}
 use Rattle.xinu_base.specs.declared.processes.Rest.TheVariants.{Nothing, SelfSuspend}
-use Rattle.xinu_base.specs.declared.processes.State.{State}
 use Rattle.xinu_base.specs.declared.processes.State.TheVariants.{Free, Current, Ready, Suspended}
 use Rattle.table_laws.proofs.Tables.Found.{free_process_free, free_process_within}
-use Rattle.table_laws.proofs.Tables.States.{is_ready_of, suspended_of}
+use Rattle.table_laws.proofs.Tables.States.{suspended_of}
 use Rattle.table_laws.specs.Moves.{CanMove, IsPlaceOf}
 use Rattle.xinu_model.specs.Heap.Cells.{Stack, take_stack}
 use Rattle.xinu_model.specs.Machine.{Xinu, start, goes_on}
@@ -26,6 +25,7 @@ use Rattle.table_laws.proofs.Preserve.{Preserves, current_within, refused_preser
 use Rattle.table_laws.proofs.Tables.Scheduling.{holds_at, null_rest_at, inside_last_process, sound_move, sound_ready, idle_differs}
 use Rattle.table_laws.proofs.Tables.MoveTo.{within_table}
 use Rattle.table_laws.proofs.Tables.Harts.{harts_set}
+use Rattle.xinu_model.proofs.States.{is_ready_of, is_not_ready}
 
 -- a free number isn't that of the null process
 free_is_not_null : (t : Tables) (p : ℕ) → IsInside t → state_at t p ≡ Free → p ≢ 0
@@ -141,10 +141,6 @@ sound_entered t p priority k e =
       slot = k.inside.slots p;
       if_free = λ f. absurd (cc);
     })
-
--- a process that doesn't pass the test isn't ready
-is_not_ready : (s : State) → is_ready s ≡ false → s ≢ Ready
-is_not_ready s h e = let f = ap is_ready e in cc
 
 -- A process gets another priority.
 sound_with_priority : (t : Tables) (p : ℕ) (priority : ℤ) → IsSoundTables t → state_at t p ≢ Free

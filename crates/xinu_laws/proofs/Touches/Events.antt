@@ -21,7 +21,7 @@ use Rattle.table_laws.proofs.Tables.Alive.{alive_kept, alive_unblock_all, replie
 use Rattle.xinu_laws.specs.Touches.{Reach, reach, at_a_tick, Touches}
 use Rattle.table_laws.proofs.Lists.Counts.{entries_without_other, first_has_entry}
 use Rattle.table_laws.proofs.Frame.{frame_same}
-use Rattle.table_laws.proofs.Tables.Scheduling.{ready_of, current_of, sleeping_of, inside_quantum, sound_resched}
+use Rattle.table_laws.proofs.Tables.Scheduling.{current_of, sleeping_of, inside_quantum, sound_resched}
 use Rattle.table_laws.proofs.Tables.Places.{ready_in_other}
 use Rattle.table_laws.proofs.Tables.MoveTo.{by_number}
 use Rattle.xinu_laws.proofs.Touches.{named, touches_tables, touches_refl, touches_trans}
@@ -30,6 +30,7 @@ use Rattle.table_laws.proofs.Lists.Maps.{times-map}
 use Rattle.table_laws.proofs.Frame.MoveTo.{times-filter-le}
 use Rattle.table_laws.proofs.Tables.Unblock.{unblock_all_ready, all_counted}
 use Rattle.table_laws.proofs.Tables.Ticks.{sound_later}
+use Rattle.xinu_model.proofs.States.{ready_of}
 
 -- who is in the ready list can become ready
 may_ready_ready : (asks : Rest → Bool) (t : Tables) → IsInside t → (p : ℕ) → 0 < entries_of p t.ready → MayReady asks t p

@@ -1,7 +1,7 @@
 use Rattle.std.proofs.Common.{◌≡◌, ◌+◌, ◌-◌, ◌*◌, ap, ◌∙◌, arith, take, drop}
-use Rattle.file_server.proofs.Puts.{put_is}
 use Rattle.lfs_check.specs.Rules.{block_in}
 use Rattle.file_server.proofs.settled.copy_block.Goals as goal
+use Rattle.lfs_check.proofs.BlockPuts.{put_is}
 
 pub returns-clause-block : goal.returns-clause-block
 returns-clause-block c =

@@ -9,9 +9,10 @@ use Rattle.xinu_model.specs.Console.Taking.{console_of, TY_ISEM, with_console}
 use Rattle.xinu_model.specs.Machine.{CallState, Silent}
 use Rattle.xinu_model.specs.Semaphores.Waiting.{signalled_times}
 use Rattle.xinu_model.specs.Sound.Console.{IsConsole}
-use Rattle.io_calls.proofs.ConsoleSignals.{few_received, few_tokens}
+use Rattle.io_calls.proofs.ConsoleSignals.{few_tokens}
 use Rattle.kernel_state.proofs.Values.{call_is}
 use Rattle.io_calls.proofs.console_signals.on_type.Goals as goal
+use Rattle.part_laws.proofs.ConsoleRoom.{few_received}
 
 pub signal_items-requires-clause-few : goal.signal_items-requires-clause-few
 signal_items-requires-clause-few c =

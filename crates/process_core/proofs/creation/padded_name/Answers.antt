@@ -1,6 +1,6 @@
 use Rattle.std.proofs.Common.{arith}
-use Rattle.process_core.proofs.Names.{written_over}
 use Rattle.process_core.proofs.creation.padded_name.Goals as goal
+use Rattle.xinu_model.proofs.ProcessNames.{written_over}
 
 pub returns : goal.returns
 returns c = record { padded = rw c.copy_from_slice.ensures.after (written_over c.args.name.now 15 15 c.requires.short (omega arith)) }

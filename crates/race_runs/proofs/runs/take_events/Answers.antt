@@ -2,7 +2,8 @@
 use Rattle.std.proofs.Common.{◌≡◌, ◌+◌, ◌∷◌, drop, get_or, sym, arith, refl, add-one, drop-cons, length-drop}
 use Rattle.std.proofs.lemmas.List.{drop_all}
 use Rattle.xinu_base.specs.declared.events.Event.TheVariants.{Step}
-use Rattle.race_runs.proofs.Underway.{so_far_start, so_far_event, so_far_ended, so_far_end}
+use Rattle.race_runs.proofs.Underway.{so_far_ended, so_far_end}
+use Rattle.machine.proofs.SoFar.{so_far_start, so_far_event}
 use Rattle.race_runs.proofs.runs.take_events.Goals as goal
 
 pub loop-event-init : goal.loop-event-init

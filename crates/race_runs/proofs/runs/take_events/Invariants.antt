@@ -3,7 +3,7 @@ use Rattle.std.proofs.Common.{◌≡◌, ◌+◌, ◌≤◌, false, length, drop
 use Rattle.host_port.specs.Outside.{Outside}
 use Rattle.host_port.specs.Printing.{Printing}
 use Rattle.machine.specs.Printed.{Booted}
-use Rattle.race_runs.proofs.Underway.{SoFar}
+use Rattle.machine.proofs.SoFar.{SoFar}
 use Rattle.xinu_base.specs.declared.events.Event.{Event}
 use Rattle.race_runs.proofs.runs.take_events.Given as goal
 

@@ -5,7 +5,7 @@ use Rattle.xinu_model.specs.Files.Syscalls.{all_told, file_line, files_of}
 use Rattle.xinu_model.specs.Files.Work.{least_effects}
 use Rattle.xinu_model.specs.Machine.{CallState, start}
 use Rattle.reference_check.proofs.file_notes.files_complete.Goals as goal
-use Rattle.reference_files.proofs.Kept.{one_at_most}
+use Rattle.xinu_model.proofs.FileOutcomes.{one_at_most}
 
 pub overflow_add-effects : goal.overflow_add-effects
 overflow_add-effects c =

@@ -2,8 +2,9 @@ use Rattle.std.proofs.Common.{◌∙◌, ap, arith}
 use Rattle.xinu_model.specs.Console.Receiving.{received}
 use Rattle.xinu_model.specs.Console.Rows.{Committed}
 use Rattle.xinu_model.specs.Machine.{CallState}
-use Rattle.reference_devices.proofs.ConsoleRoom.{few_received, input_room}
+use Rattle.reference_devices.proofs.ConsoleRoom.{input_room}
 use Rattle.reference_devices.proofs.console_signals.receive_at.Goals as goal
+use Rattle.part_laws.proofs.ConsoleRoom.{few_received}
 
 pub returns-clause-room : goal.returns-clause-room
 returns-clause-room c =

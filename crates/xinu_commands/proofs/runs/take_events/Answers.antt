@@ -1,6 +1,7 @@
 use Rattle.std.proofs.Common.{rules, sym, IsSome}
 use Rattle.xinu_commands.proofs.PlainSteps.{so_far_steps}
-use Rattle.xinu_commands.proofs.SoFar.{so_far_start, so_far_event, so_far_ended, so_far_end, so_far_stopped}
+use Rattle.xinu_commands.proofs.SoFar.{so_far_ended, so_far_end, so_far_stopped}
+use Rattle.machine.proofs.SoFar.{so_far_start, so_far_event}
 use Rattle.xinu_commands.proofs.runs.take_events.Goals as goal
 
 pub loop-machine-init : goal.loop-machine-init

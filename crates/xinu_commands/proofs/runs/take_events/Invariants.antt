@@ -4,7 +4,7 @@ use Rattle.host_port.specs.Outside.{Outside}
 use Rattle.host_port.specs.Printing.{Printing}
 use Rattle.xinu_base.specs.declared.events.Event.{Event}
 use Rattle.machine.specs.Printed.{Booted}
-use Rattle.xinu_commands.proofs.SoFar.{SoFar}
+use Rattle.machine.proofs.SoFar.{SoFar}
 use Rattle.xinu_commands.proofs.runs.take_events.Given as goal
 
 -- what holds before each event

@@ -1,7 +1,7 @@
 use Rattle.std.proofs.Common.{◌∙◌, ap, length, take}
 use Rattle.std.specs.Str.{bytes_eq}
-use Rattle.name_space.proofs.Fitting.{bytes_eq_turned}
 use Rattle.name_space.proofs.rows.Row.fits.Goals as goal
+use Rattle.xinu_model.proofs.NameTimes.{bytes_eq_turned}
 
 pub returns : goal.returns
 returns c = record {

@@ -6,10 +6,11 @@ use Rattle.xinu_base.specs.Insert.{ready_insert}
 use Rattle.xinu_model.specs.Process.Calls.{is_ready}
 use Rattle.xinu_model.specs.Tables.{InReady, message_at, move_to}
 use Rattle.process_core.specs.Tables.{process_in, tables_of, with_process}
-use Rattle.process_core.proofs.Fitting.{fits_reinserted, length_without, ready_by_test}
+use Rattle.process_core.proofs.Fitting.{fits_reinserted, length_without}
 use Rattle.process_core.proofs.Moves.{then_ready}
 use Rattle.process_core.proofs.Removals.{reinserted, taken_quietly}
 use Rattle.process_core.proofs.procs.Procs.set_priority.Goals as goal
+use Rattle.xinu_model.proofs.States.{is_ready_of}
 
 pub insert-requires : goal.insert-requires
 insert-requires c =
@@ -36,7 +37,7 @@ returns-then-is_ready-clause-lists c =
     let ws = all_without p (lists t) in
     let r : is_ready (process_in c.args.self.now.processes p).state ≡ true = sym c.is_ready-is_ready.ensures.ready ∙ c.if-is_ready.true in
     let l : lists c.insert.new.self ≡ with_list ws 128 (ready_insert p c.args.n (list_at ws 128)) = search rules in
-    rw (l, r) (reinserted t p c.args.n (c.requires.fits.ready p (ready_by_test _ r)))
+    rw (l, r) (reinserted t p c.args.n (c.requires.fits.ready p (is_ready_of _ r)))
 
 pub returns-then-is_ready-clause-prioritized : goal.returns-then-is_ready-clause-prioritized
 unfolding tables_of
@@ -52,7 +53,7 @@ returns-then-is_ready-clause-prioritized c b =
     let e : c.set_key_priority.new.self ≡ with_process p x s = search rules in
     rw (l, e)
     (then_ready ws (with_process p x s) b u p x (message_at u p) c.args.n (length_without p (lists t) ∙ queues_of t) refl
-    (taken_quietly (lists t) s b p x (disjoint t p 128 129 (c.requires.fits.ready p (ready_by_test _ r)) (λ e. omega arith)))
+    (taken_quietly (lists t) s b p x (disjoint t p 128 129 (c.requires.fits.ready p (is_ready_of _ r)) (λ e. omega arith)))
     ∙ sym (ap (λ d. cond d (move_to p x (message_at u p) InReady u) (record u { processes = set u.processes p x })) r))
 
 pub returns-then-is_ready-clause-others : goal.returns-then-is_ready-clause-others
@@ -62,7 +63,7 @@ returns-then-is_ready-clause-others c q n =
     let ws = all_without p (lists t) in
     let r : is_ready (process_in c.args.self.now.processes p).state ≡ true = sym c.is_ready-is_ready.ensures.ready ∙ c.if-is_ready.true in
     let l : lists c.insert.new.self ≡ with_list ws 128 (ready_insert p c.args.n (list_at ws 128)) = search rules in
-    rw l (ap (λ ls. list_at ls q) (reinserted t p c.args.n (c.requires.fits.ready p (ready_by_test _ r))) ∙ list_at-other (lists t) 128 _ q n)
+    rw l (ap (λ ls. list_at ls q) (reinserted t p c.args.n (c.requires.fits.ready p (is_ready_of _ r))) ∙ list_at-other (lists t) 128 _ q n)
 
 pub returns-then-is_ready-clause-fits : goal.returns-then-is_ready-clause-fits
 returns-then-is_ready-clause-fits c =
@@ -75,7 +76,7 @@ returns-then-is_ready-clause-fits c =
     let l : lists c.insert.new.self ≡ with_list ws 128 (ready_insert p c.args.n (list_at ws 128)) = search rules in
     let e : c.set_key_priority.new.self ≡ with_process p x s = search rules in
     rw (l, e)
-    (fits_reinserted (lists t) s.processes p x c.args.n c.requires.fits (queues_of t) (omega (arith, c.index.ensures.index, c.index.ensures.bound)) (ready_by_test _ r))
+    (fits_reinserted (lists t) s.processes p x c.args.n c.requires.fits (queues_of t) (omega (arith, c.index.ensures.index, c.index.ensures.bound)) (is_ready_of _ r))
 
 pub returns-else-is_ready-clause-prioritized : goal.returns-else-is_ready-clause-prioritized
 unfolding tables_of
