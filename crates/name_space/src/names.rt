@@ -79,7 +79,7 @@ impl Names {
     ///
     /// `NoMap` if and only if no prefix begins a name that is to be replaced, a name has more than 127 bytes, or a 41st replacement
     /// would be needed.
-    #[tactic(auto, using(crate::proofs::Times::one_made, crate::proofs::Times::none_needed, crate::proofs::Times::nothing_left))]
+    #[tactic(auto, using(xinu_model::proofs::NameTimes::one_made, xinu_model::proofs::NameTimes::none_needed, xinu_model::proofs::NameTimes::nothing_left))]
     pub fn map(&self, name: &[u8]) -> Result<MappedName, NoMap>
         ensures mapped { IfOk result (λ m. map_name self.now name.now ≡ Some (mapped_of m)) }
         ensures unmapped { IfErr result (λ _. map_name self.now name.now ≡ None) }

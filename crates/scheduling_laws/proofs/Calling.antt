@@ -6,7 +6,6 @@ use Rattle.xinu_base.specs.declared.events.Event.{Event}
 use Rattle.xinu_base.specs.declared.events.Event.TheVariants.{Step, Tick, Key, Tx, Disk0, Disk1, Fail0, Fail1, Dump}
 use Rattle.xinu_base.specs.declared.lines.TranscriptLine.{TranscriptLine}
 use Rattle.xinu_base.specs.declared.lines.TranscriptLine.TheVariants as line
-use Rattle.xinu_base.specs.declared.processes.Rest.TheVariants as rest
 use Rattle.xinu_base.specs.declared.registers.Outcome.{Outcome}
 use Rattle.xinu_base.specs.declared.registers.Outcome.TheVariants as outcome
 use Rattle.xinu_base.specs.declared.syscalls.Call.{Call}
@@ -16,7 +15,6 @@ use Rattle.xinu_model.specs.Files.Syscalls.{files_of}
 use Rattle.xinu_model.specs.Files.Work.{FileRequest}
 use Rattle.xinu_model.specs.Isa.Exec.{exec}
 use Rattle.xinu_model.specs.Machine.{Xinu, EventResult, CallResult, current_hart, nothing_happens, end_of_event, closed, replies_of, return_line, switched}
-use Rattle.xinu_model.specs.RawDisk.Callers as callers
 use Rattle.xinu_model.specs.Semaphores.Calls.{semdelete, semreset, wait, signal, signaln}
 use Rattle.xinu_model.specs.Sound.State.{IsSound}
 use Rattle.xinu_model.specs.Tables.{Tables, process_at}

@@ -1,11 +1,9 @@
 -- Room in ports, and tokens of their semaphores.
-use Rattle.std.proofs.Common.{◌≡◌, ℕ, zero, suc, ◌≤◌, List, [], ◌∷◌, length, set, get_or, Some, arith}
+use Rattle.std.proofs.Common.{◌≡◌, ℕ, zero, suc, ◌≤◌, List, [], ◌∷◌, length, set, get_or, Some, arith, ◌<◌, true, int_lt}
 use Rattle.xinu_model.specs.Ports.Queues.{MessagePort, nodes, port_at, PortQueue}
 use Rattle.xinu_model.specs.Tables.{no_semaphore, Semaphore}
-use Rattle.std.proofs.Common.{◌≡◌, ℕ, ◌<◌, ◌≤◌, true, int_lt, List, length, arith}
 use Rattle.std.proofs.lemmas.Int.{ints}
 use Rattle.xinu_model.specs.Semaphores.Counts.{count_of, most_tokens}
-use Rattle.xinu_model.specs.Tables.{Semaphore}
 
 -- fewer tokens of one semaphore are no more of any
 pub fewer_set : (l : List Semaphore) (sem r n : ℕ) → n ≤ (get_or l sem no_semaphore).tokens

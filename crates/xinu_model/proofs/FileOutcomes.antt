@@ -1,6 +1,6 @@
 -- The lines of an event tell how many calls on files took effect in it.
-use Rattle.std.proofs.Common.{◌≡◌, ◌==◌, ℕ, zero, suc, ◌+◌, ◌-◌, ◌≤◌, nat_lt, false, List, [], ◌∷◌, ◌++◌, map, length, refl, ap, ◌∙◌, ℤ, arith}
-use Rattle.std.specs.Prelude.{unwrap_or}
+use Rattle.std.proofs.Common.{◌≡◌, ◌==◌, ℕ, zero, suc, ◌+◌, ◌-◌, ◌≤◌, nat_lt, false, List, [], ◌∷◌, ◌++◌, map, length, refl, ap, ◌∙◌, ℤ, arith, take, drop, Option, Some, None, append-nil, take-append-drop}
+use Rattle.std.specs.Prelude.{unwrap_or, nat_lt}
 use Rattle.std.proofs.lemmas.Bool.{cond_both}
 use Rattle.xinu_base.specs.declared.lines.TranscriptLine.{TranscriptLine}
 use Rattle.xinu_base.specs.declared.lines.TranscriptLine.TheVariants.{Switch, File}
@@ -9,20 +9,9 @@ use Rattle.xinu_base.specs.declared.lines.FileMoment.TheVariants.{Turn, Finished
 use Rattle.xinu_model.specs.Agree.{begins_next}
 use Rattle.xinu_model.specs.Files.Syscalls.{files_of, file_step, file_line, completing, completed_in}
 use Rattle.xinu_model.specs.Files.Calls.{file_effect}
-use Rattle.xinu_model.specs.Files.Systems.{FileSystem}
-use Rattle.xinu_model.specs.Files.Work.{FileRequest, FileWork, FileNote, FileStep, had_turn, took_effect, with_first, first_effect, next_effects, turned, calls_completed, least_effects, most_turns}
+use Rattle.xinu_model.specs.Files.Systems.{FileSystem, replies}
+use Rattle.xinu_model.specs.Files.Work.{FileRequest, FileWork, FileNote, FileStep, had_turn, took_effect, with_first, first_effect, next_effects, turned, calls_completed, least_effects, most_turns, copied}
 use Rattle.xinu_model.specs.Machine.{Xinu, CallResult, return_line, switched, end_of_event, replies_of, closed}
-use Rattle.std.proofs.Common.{◌≡◌, ℕ, suc, ◌+◌, ◌==◌, List, [], ◌∷◌, ◌++◌, take, drop, Option, Some, None, refl, ap, ◌∙◌, arith, append-nil, take-append-drop, ℤ}
-use Rattle.std.proofs.lemmas.Bool.{cond_both}
-use Rattle.xinu_model.specs.Files.Syscalls.{files_of, file_step, told}
-use Rattle.xinu_model.specs.Files.Systems.{replies}
-use Rattle.xinu_model.specs.Files.Work.{FileRequest, FileWork, FileNote, copied, calls_completed}
-use Rattle.xinu_model.specs.Machine.{Xinu}
-use Rattle.std.proofs.Common.{◌≡◌, ◌+◌, ◌-◌, ◌≤◌, ℕ, suc, List, [], ◌∷◌, length, Option, Some, None, refl, ap, arith}
-use Rattle.std.specs.Prelude.{nat_lt}
-use Rattle.xinu_base.specs.declared.lines.FileMoment.TheVariants.{Finished, Next}
-use Rattle.xinu_model.specs.Files.Systems.{FileSystem}
-use Rattle.xinu_model.specs.Files.Work.{FileRequest, FileStep, FileWork, first_effect, least_effects, most_turns, next_effects}
 
 -- how many effects a line tells of, and lines
 abbrev pub tells_effect : TranscriptLine → ℕ

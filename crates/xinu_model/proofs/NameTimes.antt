@@ -1,9 +1,8 @@
 -- How often a name is replaced.
-use Rattle.std.proofs.Common.{◌≡◌, ℕ, zero, suc, ◌-◌, ◌<◌, ◌==◌, false, if◌then◌else◌, List, Some, None, refl, ap, arith}
+use Rattle.std.proofs.Common.{◌≡◌, ℕ, zero, suc, ◌-◌, ◌<◌, ◌==◌, false, if◌then◌else◌, List, Some, None, refl, ap, arith, sym}
 use Rattle.xinu_model.specs.Names.Constants.{NAMESPACE}
 use Rattle.xinu_model.specs.Names.Mapping.{MappedName, replaced_once, replaced_times}
 use Rattle.xinu_model.specs.Names.Mounting.{NameRow}
-use Rattle.std.proofs.Common.{◌≡◌, ℕ, suc, ◌<◌, false, List, sym, ap, Some}
 use Rattle.std.proofs.lemmas.Bool.Decides.{same_from_decides}
 use Rattle.std.proofs.lemmas.Slice.Eq.{bytes_eq-Decides}
 use Rattle.std.specs.Str.{bytes_eq}

@@ -1,18 +1,10 @@
 -- What the tests of states say of them.
-use Rattle.std.proofs.Common.{◌≡◌, true, refl}
+use Rattle.std.proofs.Common.{◌≡◌, true, refl, ◌<◌, arith, ◌≢◌, ap, false}
 use Rattle.xinu_base.specs.declared.processes.State.{State}
 use Rattle.xinu_base.specs.declared.processes.State.TheVariants.{Free, Current, Ready, Receiving, Sleeping, Suspended, Waiting, Timed}
 use Rattle.xinu_model.specs.Process.Calls.{is_ready}
-use Rattle.std.proofs.Common.{◌≡◌, true, refl}
 use Rattle.xinu_model.specs.Tables.{is_free}
-use Rattle.std.proofs.Common.{◌≡◌, ◌<◌, true, refl, arith}
-use Rattle.xinu_model.specs.Process.Scheduling.{ready}
 use Rattle.xinu_model.specs.Sound.Tables.{ready_places, waiting_places}
-use Rattle.std.proofs.Common.{◌≡◌, ◌≢◌, ◌<◌, refl, ap, false}
-use Rattle.xinu_base.specs.declared.processes.State.TheVariants.{Free, Current, Ready, Suspended}
-use Rattle.xinu_model.specs.Process.Calls.{is_ready}
-use Rattle.xinu_model.specs.Tables.{is_free}
-use Rattle.xinu_model.proofs.States.{is_ready_of}
 
 -- who passes the test is ready
 pub is_ready_of : (s : State) → is_ready s ≡ true → s ≡ Ready

@@ -1,5 +1,5 @@
 -- What is left of a call that waited answers -1 only if it is refused, and -3 only if its time ran out: the answers that no continuation gives.
-use Rattle.std.proofs.Common.{◌≡◌, ◌≢◌, ◌==◌, ◌-◌, Bool, true, false, cond, ◌&&◌, ℕ, zero, suc, ◌+◌, List, [], ◌∷◌, pos, negsuc}
+use Rattle.std.proofs.Common.{◌≡◌, ◌≢◌, Bool, true, false, cond, ◌&&◌, ℕ, zero, suc, ◌+◌, List, [], ◌∷◌, pos, negsuc}
 use Rattle.std.specs.Prelude.{slice_index}
 use Rattle.std.proofs.lemmas.Bool.{cond_both}
 use Rattle.xinu_base.specs.Constants.{EOF}

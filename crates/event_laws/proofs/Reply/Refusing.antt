@@ -1,16 +1,16 @@
 -- Who answers -1 as it goes on is refused, and nothing else changes; or -1 is the value of its call.
-use Rattle.std.proofs.Common.{◌≡◌, ◌≢◌, ◌⊎◌, inl, inr, ℕ, zero, suc, ◌+◌, ◌-◌, Bool, true, false, List, [], ◌∷◌, Option, Some, None, refl, sym, ap, ◌∙◌, pos, negsuc}
+use Rattle.std.proofs.Common.{◌≡◌, ◌≢◌, ◌⊎◌, inl, inr, ℕ, zero, suc, ◌+◌, ◌-◌, true, false, List, [], ◌∷◌, Option, Some, None, refl}
 use Rattle.std.specs.Prelude.{slice_index, nat_le, option_map}
 use Rattle.std.proofs.lemmas.Bool.{cond_both}
 use Rattle.event_laws.specs.Replies.{first_of, value_kept}
-use Rattle.event_laws.proofs.Reply.Continued.{Never, put_byte_never, read_item_never, reads_never, take_char_never, writes_never}
+use Rattle.event_laws.proofs.Reply.Continued.{put_byte_never, read_item_never, reads_never, take_char_never, writes_never}
 use Rattle.xinu_base.specs.Constants.{OK, SYSERR, TIMEOUT}
 use Rattle.xinu_base.specs.declared.processes.PortTicket.{PortTicket}
 use Rattle.xinu_base.specs.declared.processes.Rest.{Rest}
 use Rattle.xinu_base.specs.declared.processes.Rest.TheVariants as rest
 use Rattle.xinu_model.specs.Calls.{continued}
 use Rattle.xinu_model.specs.Console.Constants.{TY_NEWLINE}
-use Rattle.xinu_model.specs.Console.Putting.{put, put_byte, writes}
+use Rattle.xinu_model.specs.Console.Putting.{put, writes}
 use Rattle.xinu_model.specs.Console.Taking.{console_of, reads}
 use Rattle.xinu_model.specs.Machine.{Xinu, Returns, CallResult, start, returns, refused, goes_on}
 use Rattle.xinu_model.specs.Messages.{held, received}

@@ -6,7 +6,6 @@ use Rattle.std.proofs.lemmas.Bool.{cond_both}
 use Rattle.table_laws.proofs.Lists.Orders.{all_append}
 use Rattle.table_laws.proofs.Tables.Scheduling.{holds_at}
 use Rattle.xinu_base.specs.Constants.{OK, EOF, TIMEOUT}
-use Rattle.xinu_base.specs.declared.console.Item.{Item}
 use Rattle.xinu_base.specs.declared.files.OpenMode.{OpenMode}
 use Rattle.xinu_base.specs.declared.processes.PortTicket.{PortTicket}
 use Rattle.xinu_base.specs.declared.processes.Rest.{Rest}
@@ -16,10 +15,9 @@ use Rattle.event_laws.specs.Replies.{first_of, value_kept}
 use Rattle.event_laws.proofs.Reply.Continued.{Never, either_never, put_byte_never, read_item_never, reads_never, take_char_never, writes_never}
 use Rattle.xinu_model.specs.Calls.{continued}
 use Rattle.xinu_model.specs.Clock.{due, wakeup}
-use Rattle.xinu_model.specs.Console.Constants.{TY_NEWLINE, TY_RETURN}
-use Rattle.xinu_model.specs.Console.Putting.{TY_OSEM, put, needs_return, put_byte, writes}
-use Rattle.xinu_model.specs.Console.State.{byte_of}
-use Rattle.xinu_model.specs.Console.Taking.{TY_ISEM, console_of, is_cooked, is_end, with_committed, take_char, span, stored, ends_line, count_at_end, read_item, read_next, reads}
+use Rattle.xinu_model.specs.Console.Constants.{TY_NEWLINE}
+use Rattle.xinu_model.specs.Console.Putting.{put, writes}
+use Rattle.xinu_model.specs.Console.Taking.{console_of, reads}
 use Rattle.xinu_model.specs.Files.Calls.{FileCall, Open, Delete, Close, Read, Write, Getc, Putc, Seek, Truncate, Size, file_effect}
 use Rattle.xinu_model.specs.Files.Constants.{LF_NUM_DIR_ENT, Nlfl}
 use Rattle.xinu_model.specs.Files.Opening.{opened, with_created, open_stored, close_file}
@@ -36,10 +34,9 @@ use Rattle.xinu_model.specs.Ports.Queues.{PortQueue, most_nodes, nodes, port_at,
 use Rattle.xinu_model.specs.RawDisk.Completions.{served, transferred}
 use Rattle.xinu_model.specs.RawDisk.Requests.{Request, RawDisk}
 use Rattle.xinu_model.specs.Semaphores.Calls.{answers}
-use Rattle.xinu_model.specs.Semaphores.Waiting.{take_token, await}
 use Rattle.xinu_model.specs.Sound.State.{IsSound}
 use Rattle.xinu_model.specs.Sound.Tables.{HoldsFor}
-use Rattle.xinu_model.specs.Tables.{process_at, semaphore_at, state_at}
+use Rattle.xinu_model.specs.Tables.{process_at, state_at}
 use Rattle.xinu_model.specs.Words.{signed}
 
 -- a call that doesn't answer -3

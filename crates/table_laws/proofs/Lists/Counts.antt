@@ -4,9 +4,6 @@ use Rattle.std.proofs.lemmas.Bool.{true≢false, false≢true, cond_both, eqb-tr
 use Rattle.xinu_base.specs.Insert.{insert}
 use Rattle.xinu_model.specs.Sound.Tables.{times, total, entries_of, count_in}
 use Rattle.xinu_model.specs.Tables.{entries_without, numbers_without}
-use Rattle.std.proofs.Common.{◌≡◌, ◌≢◌, ℕ, zero, suc, ◌+◌, ◌-◌, ◌<◌, ◌≤◌, ◌==◌, true, not, List, [], ◌∷◌, ◌++◌, length, refl, sym, ap, subst, ◌∙◌, arith}
-use Rattle.std.proofs.lemmas.Bool.{cond_both, eq-eqb, eqb-true, ne_eqb}
-use Rattle.xinu_model.specs.Sound.Tables.{count_in}
 
 -- one element more, if it passes, before a part of a count
 count_left : (a : Bool) (m n : ℕ) → cond a (suc m) m + n ≡ cond a (suc (m + n)) (m + n)
