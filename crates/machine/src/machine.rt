@@ -175,7 +175,7 @@ fn is_over(k: &KernelState) -> bool
     requires sound { IsSound k.now.call.state }
     ensures over { result ≡ runs.is_over k.now.call.state }
 {
-    if k.current() != Pid::default() {
+    if k.tables.current() != Pid::default() {
         return false;
     }
     k.tables.is_over()
