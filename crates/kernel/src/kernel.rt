@@ -45,7 +45,7 @@ use xinu_base::{Call, Family, Next, Pid, Rest, SYSERR, family_of};
 /// The kernel. A clause sees the state of the abstract machine inside an event and how the event's call goes, `came`, and the bytes of the
 /// disk with files, `image`.
 pub struct Kernel {
-    // The state.
+    // What calls and events change.
     pub(crate) state: KernelState,
     // How the event's call went.
     answer: Option<Next>,

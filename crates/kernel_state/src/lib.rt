@@ -6,7 +6,7 @@
 //!
 //! | Call | Promise |
 //! |---|---|
-//! | `current`, `is_done`, `is_on_device`, `call_of`, `released` | the current process; whether nothing is left of its call, and whether what is left is of a call on a device; the call in its registers; the replies so far |
+//! | `is_on_device`, `call_of`, `released` | whether what is left of the current process's call is of one on a device; the call in its registers; the replies so far |
 //! | `holds_files` | a law: the disk with files holds the files at rest |
 //! | `ram_is_whole` | a law: RAM has its size |
 //! | `instruction` | `exec` of the current process |

@@ -18,7 +18,7 @@ pub struct Creation {
     pub entry: u32,
     /// The bytes of the stack that are asked for.
     pub stack: u32,
-    /// The priority.
+    /// The scheduling priority.
     pub priority: i16,
     /// What is in registers a0 and a1 at the start.
     pub args: (u32, u32),

@@ -4,7 +4,7 @@
 //! It depends on the kernel's tables, the processor core, the heap, the buffer pools, the ports and the drivers of the devices. No fact is
 //! kept of it: the kernel keeps what holds of all of it.
 
-ghost use Rattle.std.specs.Prelude.{◌≡◌, ◌≤◌, ◌↔◌, IsTrue, [], length};
+ghost use Rattle.std.specs.Prelude.{◌≡◌, ◌≤◌, [], length};
 ghost use Rattle.given_disks.specs.HeldFiles.{HoldsFiles};
 ghost use Rattle.kernel_state.specs.Families.{is_on_device};
 ghost use Rattle.kernel_state.specs.Results.{answer_so_far};
@@ -30,17 +30,17 @@ use xinu_base::{Call, Next, Pid, Rest};
 
 /// The state. A clause sees the abstract machine's inside an event, `call`, and the bytes of the disk with files, `image`.
 pub struct KernelState {
-    /// The tables.
+    /// Processes, semaphores, messages, sleepers and the ticks.
     pub tables: KernelTables,
     /// The registers of each process, by its number.
     pub harts: [Hart; 64],
     /// The memory.
     pub ram: Ram,
-    /// The heap.
+    /// Which cells of RAM are free.
     pub heap: Heap,
     /// The buffer pools.
     pub pools: Pools,
-    /// The ports.
+    /// The ports, with the messages that wait in them.
     pub ports: Ports,
     /// The console.
     pub tty: Tty,
@@ -86,20 +86,6 @@ impl Model for KernelState {
 }
 
 impl KernelState {
-    /// The current process.
-    pub fn current(&self) -> Pid
-        ensures current { result ≡ self.now.call.state.tables.current }
-    {
-        self.tables.current()
-    }
-
-    /// Whether nothing is left of the current process's call.
-    pub fn is_done(&self) -> bool
-        ensures done { IsTrue result ↔ ((process_at self.now.call.state.tables self.now.call.state.tables.current).rest ≡ Rest.Nothing) }
-    {
-        self.tables.is_done()
-    }
-
     /// Whether what is left of the current process's call is of one on a device.
     pub fn is_on_device(&self) -> bool
         ensures on { result ≡ is_on_device (process_at self.now.call.state.tables self.now.call.state.tables.current).rest }

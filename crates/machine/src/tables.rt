@@ -85,7 +85,11 @@ fn print_ready<H: Host>(tables: &KernelTables, out: &mut Printer, host: &mut H)
 {
     let mut next = tables.first_ready();
     while let Some(p) = next {
-        print_line(&TranscriptLine::Ready(p, tables.process(p).priority), out, host);
+        print_line(
+            &TranscriptLine::Ready(p, tables.process(p).priority),
+            out,
+            host,
+        );
         next = tables.ready_after(p);
     }
 }

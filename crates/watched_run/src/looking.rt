@@ -18,8 +18,8 @@ pub(crate) fn actor(replay: &Replay) -> Option<Pid> {
 
 // The process whose instruction a step carries out: not the null process, and nothing is left of a call.
 fn stepping(k: &KernelState) -> Option<Pid> {
-    let current = k.current();
-    if current.index() == 0 || !k.is_done() {
+    let current = k.tables.current();
+    if current.index() == 0 || !k.tables.is_done() {
         None
     } else {
         Some(current)
