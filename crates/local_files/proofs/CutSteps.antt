@@ -149,7 +149,7 @@ free_next_goes e freed base disk s c some most index row is =
         let rest = if not (e.index.next == null) then going_on CutRead (record e { at = e.index.next }) else end_cut e in
         let P : Bool → Type 0 = λ w. G (if w then freeing (slice_index e.index.blocks (e.freed % 16)) e else rest) in
         let Q : ℕ → Type 0 = λ k. G (freeing k e) in
-        let R : Bool → Type 0 = λ w. G (if w then e2 else answered (negsuc 0) e) in
+        let R : Bool → Type 0 = λ w. G (if w then e2 else answered (negsuc 0) (record e { block = word_block e.header.free_data })) in
         subst P (sym x_is) (subst Q (sym v) (subst R (sym on) (
           record {
             standing = with_block s (word_long e.header.free_data);

@@ -170,7 +170,8 @@ free_next_less e base m four freed index =
     let b = slice_index e.index.blocks (e.freed % 16) in
     below_if (nat_lt e.freed 16 && not (b == null)) (freeing b e)
     (if not (e.index.next == null) then going_on CutRead (record e { at = e.index.next }) else end_cut e) base m
-    (λ _. below_if (nat_lt b e.blocks) (record e { block = word_block e.header.free_data; phase = Wants (FreeWrite b) }) (answered (negsuc 0) e)
+    (λ _. below_if (nat_lt b e.blocks) (record e { block = word_block e.header.free_data; phase = Wants (FreeWrite b) })
+    (answered (negsuc 0) (record e { block = word_block e.header.free_data }))
     base m (λ _. freed) (λ _. omega (arith, four)))
     (λ _. below_if (not (e.index.next == null)) (going_on CutRead (record e { at = e.index.next })) (end_cut e) base m
     (λ _. cut_at_less (record e { at = e.index.next }) base m index) (λ _. end_cut_less e base m four))

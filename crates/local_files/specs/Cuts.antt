@@ -56,7 +56,7 @@ word_block word = little_bytes 4 word ++ replicate 508 0
 
 -- a data block is to be freed, if there is such a block
 abbrev pub freeing : ℕ → Files → Files
-freeing b e = if nat_lt b e.blocks then record e { block = word_block e.header.free_data; phase = Wants (FreeWrite b) } else answered (negsuc 0) e
+freeing b e = going_on (FreeWrite b) (record e { block = word_block e.header.free_data })
 
 -- goes on to the next data block, or the next index block, or the end
 abbrev pub free_next : Files → Files

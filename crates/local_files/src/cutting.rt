@@ -95,14 +95,10 @@ impl Files {
     fn free(&mut self, b: u32)
         ensures new { self.new ≡ freeing b self.old }
     {
-        if b < self.blocks {
-            let next = self.header.free_data;
-            self.block = [0; 512];
-            LittleEndian::write_u32(&mut self.block[..4], next);
-            self.phase = Phase::Wants(Purpose::FreeWrite { block: b });
-        } else {
-            self.answer_with(-1);
-        }
+        let next = self.header.free_data;
+        self.block = [0; 512];
+        LittleEndian::write_u32(&mut self.block[..4], next);
+        self.go_on(Purpose::FreeWrite { block: b });
     }
 
     // It is written: it is the first free one.
