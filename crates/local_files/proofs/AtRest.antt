@@ -22,7 +22,7 @@ use Rattle.local_files.specs.declared.Files.{Files}
 use Rattle.local_files.specs.declared.FileCall.{FileCall}
 use Rattle.local_files.specs.declared.FileCall.TheVariants.{Open, Delete, Close, Read, Write, Getc, Putc, Seek, Truncate, Size}
 use Rattle.local_files.specs.declared.Phase.{Phase}
-use Rattle.local_files.specs.Hands.{system, put_bytes, name_of, IsEnding, IsCutFor, IsCutting, HoldsOthers, name_in_hand}
+use Rattle.local_files.specs.Hands.{system, put_bytes, name_of, IsEnding, IsCutFor, IsCutting, HoldsOthers, name_in_hand, but_blocks}
 use Rattle.local_files.specs.Putting.{IsPutting}
 use Rattle.local_files.specs.Steps.{shown, device_at, device_of}
 use Rattle.local_files.specs.Standing.{Stands, InHand, call_of, wanted, wanted_in, call_bytes}
@@ -94,7 +94,7 @@ cutting_holds : (e : Files) (freed : ℕ) (base disk : List ℕ) (rests : List �
 cutting_holds e freed base disk rests s a w c =
     middle_holds e.blocks base disk e.header e.slot e.entry c.places [] rests c.cut.middle (by_call e.call refl c.for)
   where
-    by_call : (k : FileCall) → e.call ≡ k → IsCutFor k e base → rests (bare_name (entry_at base e.slot).name) ≡ false
+    by_call : (k : FileCall) → e.call ≡ k → IsCutFor k (but_blocks e) base → rests (bare_name (entry_at base e.slot).name) ≡ false
     by_call (Delete name) is h = deleted_busy e base rests name a w is h.named
     by_call (Truncate d) is h = (slot_busy e base disk rests (device_of e.call) h.file s a h.open_is h.slot).1
     by_call (Open n m) is h = absurd h
@@ -108,7 +108,7 @@ cutting_holds e freed base disk rests s a w c =
 
 -- a call that writes the directory
 ending_busy : (e : Files) (base disk : List ℕ) (rests : List ℕ → Bool) → Stands e base disk → AreAtRest e base rests
-    → is_some (wanted e) ≡ true → IsEnding e.call e base → rests (bare_name (name_in_hand e base)) ≡ false
+    → is_some (wanted e) ≡ true → IsEnding e.call (but_blocks e) base → rests (bare_name (name_in_hand e base)) ≡ false
 ending_busy e base disk rests s a w h = by_call e.call refl h
   where
     in_slot : entry_is_used (entry_at base e.slot) ≡ true → rests (bare_name (entry_at base e.slot).name) ≡ false
@@ -118,7 +118,7 @@ ending_busy e base disk rests s a w h = by_call e.call refl h
     on_device : (d : ℕ) (f : OpenFile) → device_at e d ≡ Some f → e.slot ≡ f.slot → rests (bare_name (name_in_hand e base)) ≡ false
     on_device d f at slot = let b = slot_busy e base disk rests d f s a at slot in in_slot b.0 b.1
 
-    by_call : (k : FileCall) → e.call ≡ k → IsEnding k e base → rests (bare_name (name_in_hand e base)) ≡ false
+    by_call : (k : FileCall) → e.call ≡ k → IsEnding k (but_blocks e) base → rests (bare_name (name_in_hand e base)) ≡ false
     by_call (Open name mode) is h =
         let n : e.entry.name ≡ name = h.named ∙ ap name_of is in
         ap (λ v. rests (bare_name (if v then (entry_at base e.slot).name else e.entry.name))) h.free ∙ ap (λ x. rests (bare_name x)) n
@@ -148,7 +148,7 @@ held_always e base disk rests s a = by_phase e.phase refl s.hand
     busy : (p : Phase) → e.phase ≡ p → is_some (wanted_in p e) ≡ true → is_some (wanted e) ≡ true
     busy p is w = ap (λ q. is_some (wanted_in q e)) is ∙ w
 
-    ends : (p : Phase) → e.phase ≡ p → is_some (wanted_in p e) ≡ true → IsEnding e.call e base → HoldsOthers e base disk
+    ends : (p : Phase) → e.phase ≡ p → is_some (wanted_in p e) ≡ true → IsEnding e.call (but_blocks e) base → HoldsOthers e base disk
         → Holds disk (stored_files base) rests
     ends p is w h held = held rests (ending_busy e base disk rests s a (busy p is w) h)
 

@@ -20,9 +20,9 @@ use Rattle.file_laws.proofs.Counted.{files_counted, count_less}
 use Rattle.local_files.specs.declared.OpenFile.{OpenFile}
 use Rattle.local_files.specs.declared.Files.{Files}
 use Rattle.local_files.specs.declared.FileCall.{FileCall}
-use Rattle.local_files.specs.declared.FileCall.TheVariants.{Open, Delete, Close, Read, Write, Getc, Putc, Seek, Truncate, Size}
+use Rattle.local_files.specs.declared.FileCall.TheVariants.{Open}
 use Rattle.local_files.specs.declared.Phase.{Phase}
-use Rattle.local_files.specs.Hands.{system, IsEnding, IsMade, IsDevice, IsOpenOn, AreApart, IsCall, IsWritten, IsCreating, IsClosing, IsEntryWrite, IsHeaderRead, IsEntryBlock, IsHeaderBlock, files_after, MayLook, name_of}
+use Rattle.local_files.specs.Hands.{system, IsMade, IsDevice, IsOpenOn, AreApart, IsCall, IsCreating, IsClosing, IsEntryWrite, IsHeaderRead, IsEntryBlock, IsHeaderBlock, files_after, MayLook, name_of, but_blocks}
 use Rattle.local_files.specs.Steps.{device_at, answered, lowest_free, shown}
 use Rattle.local_files.specs.Standing.{Stands, InHand, GoesTo, call_bytes}
 use Rattle.local_files.specs.Opens.{opened}
@@ -45,78 +45,6 @@ blocks_many e base disk s =
     let low : 14 ≤ n = (let P : Bool → Type 0 = λ b. cond b 14 8 ≤ n in subst P s.clean.version size.0) in
     let b = s.blocks in let w = s.whole in (omega (arith, low, b), w ∙ b)
 
--- what a write has done, with other fields of the engine
-written_kept : (e : Files) (phase : Phase) (block base : List ℕ) → IsWritten e base
-    → IsWritten (record e { phase = phase; block = block }) base
-written_kept e phase block base h = record {
-  file = h.file;
-  open_is = h.open_is;
-  writes = h.writes;
-  slot = h.slot;
-  position = h.position;
-  some = h.some;
-  few = h.few;
-  most = h.most;
-  fits = h.fits;
-  size = h.size;
-  named = h.named;
-}
-
--- the files after the call, with other fields of the engine
-after_same : (call : FileCall) (e : Files) (phase : Phase) (block base : List ℕ)
-    → files_after call e base ≡ files_after call (record e { phase = phase; block = block }) base
-after_same (Open name mode) e phase block base = refl
-after_same (Delete name) e phase block base = refl
-after_same (Write d) e phase block base = refl
-after_same (Putc d b) e phase block base = refl
-after_same (Truncate d) e phase block base = refl
-after_same (Close d) e phase block base = refl
-after_same (Read d n) e phase block base = refl
-after_same (Getc d) e phase block base = refl
-after_same (Seek d n) e phase block base = refl
-after_same (Size d) e phase block base = refl
-
--- what the call has done does not depend on what it waits for
-ending_kept : (call : FileCall) (e : Files) (phase : Phase) (block base : List ℕ) → IsEnding call e base
-    → IsEnding call (record e { phase = phase; block = block }) base
-ending_kept (Open name mode) e phase block base h = record {
-  slot = h.slot;
-  call = h.call;
-  look = h.look;
-  none = h.none;
-  named = h.named;
-  empty = h.empty;
-  free = h.free;
-  may = h.may;
-}
-ending_kept (Delete name) e phase block base h = record { slot = h.slot; call = h.call; closed = h.closed; used = h.used; named = h.named }
-ending_kept (Write d) e phase block base h = written_kept e phase block base h
-ending_kept (Putc d b) e phase block base h = (written_kept e phase block base h.0, h.1)
-ending_kept (Truncate d) e phase block base h = record {
-  file = h.file;
-  open_is = h.open_is;
-  writes = h.writes;
-  slot = h.slot;
-  named = h.named;
-}
-ending_kept (Close d) e phase block base h = h
-ending_kept (Read d n) e phase block base h = h
-ending_kept (Getc d) e phase block base h = h
-ending_kept (Seek d n) e phase block base h = h
-ending_kept (Size d) e phase block base h = h
-
--- the disk that is made, with other fields of the engine
-made_same : (e : Files) (phase : Phase) (block base made : List ℕ) → IsMade e base made
-    → IsMade (record e { phase = phase; block = block }) base made
-made_same e phase block base made m = record {
-  clean = m.clean;
-  size = m.size;
-  files = m.files
-      ∙ after_same e.call e phase block base;
-  entry = m.entry;
-  others = m.others;
-}
-
 -- the blocks of a disk that the engine stands for
 pub put_whole : (e : Files) (base disk : List ℕ) (n : ℕ) → Stands e base disk → n < e.blocks
     → length (block_put disk n e.block) ≡ length base
@@ -137,12 +65,11 @@ put_entry_goes e e' base disk read phase new put s honest =
       record {
         standing = with_block s.standing block.long;
         hand = record {
-          ending = ending_kept e.call e (Wants EntryWrite) e'.block base hand.ending;
+          ending = hand.ending;
           slot = hand.slot;
           held = hand.held;
           next = hand.next e'.block block;
-          made = λ hb q. made_same e (Wants EntryWrite) e'.block base (block_put (block_put disk (e.slot / 13) e'.block) 0 hb)
-              (hand.made e'.block hb block q);
+          made = λ hb q. hand.made e'.block hb block q;
         };
       },
       refl,
@@ -165,10 +92,10 @@ entry_written_goes e e' base disk phase new s =
       record {
         standing = with_disk s.standing (put_whole e base disk (e.slot / 13) s at);
         hand = record {
-          ending = ending_kept e.call e (Wants HeaderRead) e.block base hand.ending;
+          ending = hand.ending;
           slot = hand.slot;
           held = hand.next;
-          made = λ hb q. made_same e (Wants HeaderRead) e.block base (block_put after 0 hb) (hand.made hb q);
+          made = hand.made;
         };
       },
       refl,
@@ -191,10 +118,10 @@ put_header_goes e e' base disk read phase new put s honest =
       record {
         standing = with_block s.standing block.long;
         hand = record {
-          ending = ending_kept e.call e (Wants HeaderWrite) e'.block base hand.ending;
+          ending = hand.ending;
           slot = hand.slot;
           held = hand.held;
-          made = made_same e (Wants HeaderWrite) e'.block base (block_put disk 0 e'.block) (hand.made e'.block block);
+          made = hand.made e'.block block;
         };
       },
       refl,
@@ -203,7 +130,7 @@ put_header_goes e e' base disk read phase new put s honest =
     )
 
 -- of the made disk an open device's entry is as it was
-others_open : (e : Files) (base made : List ℕ) (f : OpenFile) → IsMade e base made → entry_is_used (entry_at base e.slot) ≡ false
+others_open : (e : Files) (base made : List ℕ) (f : OpenFile) → IsMade (but_blocks e) base made → entry_is_used (entry_at base e.slot) ≡ false
     → IsOpenOn base f → IsOpenOn made f × (f.slot ≢ e.slot)
 others_open e base made f m free o =
     let ne : f.slot ≢ e.slot = λ q. false≢true (sym free ∙ ap (λ k. entry_is_used (entry_at base k)) (sym q) ∙ ap entry_is_used o.entry
@@ -211,20 +138,20 @@ others_open e base made f m free o =
     (record { slot = o.slot; entry = m.others f.slot ne ∙ o.entry; used = o.used; position = o.position }, ne)
 
 -- what all devices have open is on the disk that is made
-all_open : (e : Files) (base made : List ℕ) (o : Option OpenFile) → IsMade e base made → entry_is_used (entry_at base e.slot) ≡ false
+all_open : (e : Files) (base made : List ℕ) (o : Option OpenFile) → IsMade (but_blocks e) base made → entry_is_used (entry_at base e.slot) ≡ false
     → IsDevice base o → IsDevice made o
 all_open e base made None m free h = tt
 all_open e base made (Some f) m free h = (others_open e base made f m free h).0
 
 -- what was open is apart from the file that is made
-away_from : (e : Files) (base made : List ℕ) (o : Option OpenFile) (f : OpenFile) → f.slot ≡ e.slot → IsMade e base made
+away_from : (e : Files) (base made : List ℕ) (o : Option OpenFile) (f : OpenFile) → f.slot ≡ e.slot → IsMade (but_blocks e) base made
     → entry_is_used (entry_at base e.slot) ≡ false → IsDevice base o → AreApart o (Some f) × AreApart (Some f) o
 away_from e base made None f q m free h = (tt, tt)
 away_from e base made (Some g) f q m free h = let ne = (others_open e base made g m free h).1 in (λ z. ne (z ∙ q), λ z. ne (sym z ∙ q))
 
 -- an open that makes its file has its effect
 pub creates : (e : Files) (name : List ℕ) (mode : OpenMode) (base disk : List ℕ) → e.call ≡ Open name mode → Stands e base disk
-    → IsCreating e base
+    → IsCreating (but_blocks e) base
     → model.file_effect (model.Open (bare_name name) mode) [] (system e base) ≡ model_opening.opened (bare_name name) mode
     (with_created (bare_name name) (system e base))
 creates e name mode base disk is s h =
@@ -250,7 +177,7 @@ creates e name mode base disk is s h =
 
 -- the counts are written: the file is made, and open
 pub made_open : (e : Files) (name : List ℕ) (mode : OpenMode) (base disk made : List ℕ) → e.call ≡ Open name mode → Stands e base disk
-    → IsCreating e base → IsMade e base made
+    → IsCreating (but_blocks e) base → IsMade (but_blocks e) base made
     → GoesTo (opened e.slot e.entry mode e).phase (Open name mode) [] e (opened e.slot e.entry mode e) base made
 made_open e name mode base disk made is s h m =
     let sys : FileSystem = system e base in
@@ -259,7 +186,7 @@ made_open e name mode base disk made is s h m =
     let free : lowest_free e < 6 = (let t = look.1 in grind (arith, nat_tests)) in
     let f : OpenFile = opening_file e.slot e.entry mode in
     let named : e.entry.name ≡ name = h.named ∙ ap name_of is in
-    let files : stored_files made ≡ files_after (Open name mode) e base = m.files ∙ ap (λ k. files_after k e base) is in
+    let files : stored_files made ≡ files_after (Open name mode) e base = m.files ∙ ap (λ k. files_after k (but_blocks e) base) is in
     let d = lowest_free e in
     let result : List StoredFile → List (Option systems.OpenFile)
     → FileEffect = λ fs ds. record { system = record { blocks = e.blocks; files = fs; devices = ds }; reply = pos (4 + d); bytes = [] } in

@@ -23,7 +23,7 @@ use Rattle.lfs_check.specs.Fields.{fields_of}
 use Rattle.lfs_check.specs.Disks.{disk_geometry, header_on}
 use Rattle.file_laws.specs.Middle.{IsMiddle}
 use Rattle.file_laws.proofs.Middles.{middle_begins}
-use Rattle.local_files.specs.Hands.{IsCutFor}
+use Rattle.local_files.specs.Hands.{IsCutFor, but_blocks}
 use Rattle.local_files.specs.Cuts.{cutting}
 use Rattle.local_files.proofs.Freeing.{goes_from}
 use Rattle.local_files.proofs.Taking.{open_of}
@@ -102,7 +102,7 @@ counts_read_goes e e' base disk read phase new s honest =
     used : entry_is_used e.entry ≡ true
     used = ap entry_is_used h.entry ∙ o.used
 
-    for : (c : FileCall) → e.call ≡ c → is_truncate c ≡ true → IsCutFor c x base
+    for : (c : FileCall) → e.call ≡ c → is_truncate c ≡ true → IsCutFor c (but_blocks x) base
     for (Truncate d) is t = record {
       file = h.file;
       open_is = h.open_is;

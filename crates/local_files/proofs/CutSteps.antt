@@ -1,18 +1,13 @@
 -- A file is cut: what comes after a block is freed.
-use Rattle.std.proofs.Common.{◌≡◌, ◌≢◌, ℕ, suc, ◌+◌, ◌*◌, ◌/◌, ◌<◌, ◌≤◌, Bool, true, false, List, length, map, refl, sym, ap, ◌∙◌, subst, arith, slice_index_or, None, negsuc, if◌then◌else◌, not, slice_index, ◌&&◌, ◌%◌, ⊎_elim, nat_lt, ◌==◌}
+use Rattle.std.proofs.Common.{◌≡◌, ◌≢◌, ℕ, suc, ◌+◌, ◌*◌, ◌/◌, ◌<◌, ◌≤◌, Bool, true, false, List, length, refl, sym, ap, ◌∙◌, subst, arith, slice_index_or, negsuc, if◌then◌else◌, not, slice_index, ◌&&◌, ◌%◌, ⊎_elim, nat_lt, ◌==◌}
 use Rattle.std.proofs.lemmas.Bool.{cases_lt}
 use Rattle.std.proofs.lemmas.Bool.Decides.{nat_tests}
-use Rattle.lfs_check.specs.Rules.{entry_is_used}
-use Rattle.lfs_check.specs.Disks.{entry_at}
-use Rattle.lfs_layout.specs.Files.{bare_name}
-use Rattle.xinu_model.specs.Files.Systems.{FileSystem, is_open}
-use Rattle.file_laws.specs.StoredFiles.{stored_files}
 use Rattle.local_files.specs.declared.Files.{Files}
 use Rattle.local_files.specs.declared.FileCall.{FileCall}
 use Rattle.local_files.specs.declared.FileCall.TheVariants.{Open, Delete, Close, Read, Write, Getc, Putc, Seek, Truncate, Size}
 use Rattle.local_files.specs.declared.Phase.{Phase}
-use Rattle.local_files.specs.Hands.{system, IsCall, name_of}
-use Rattle.local_files.specs.Steps.{answered, shown, device_of, going_on}
+use Rattle.local_files.specs.Hands.{but_blocks}
+use Rattle.local_files.specs.Steps.{answered, going_on}
 use Rattle.local_files.specs.Standing.{GoesTo, call_bytes, IsStanding}
 use Rattle.std.proofs.Common.{◌-◌, ◌*◌, replicate, length-append, min}
 use Rattle.byteorder.specs.Endian.{little_bytes}
@@ -32,34 +27,19 @@ use Rattle.local_files.proofs.Standing.{with_block}
 use Rattle.local_files.specs.declared.Phase.TheVariants.{Wants}
 use Rattle.local_files.specs.declared.Purpose.TheVariants.{CutRead, FreeWrite}
 
--- what the call is for does not depend on its steps
-pub for_kept : (call : FileCall) (e e2 : Files) (base : List ℕ) → e2.call ≡ e.call → e2.slot ≡ e.slot → e2.devices ≡ e.devices
-    → e2.blocks ≡ e.blocks → e2.entry.name ≡ e.entry.name → IsCutFor call e base → IsCutFor call e2 base
-for_kept (Delete name) e e2 base c l d b n h = record {
-  slot = (let x = h.slot in omega (arith, x, l));
-  call = subst IsCall (sym c) h.call;
-  closed = ap (λ k. is_open (bare_name (name_of k)) (system e2 base)) c
-      ∙ ap (λ ds. is_open (bare_name (name_of e.call)) (let r : FileSystem =
-      record { blocks = e2.blocks; files = stored_files base; devices = map shown ds } in r)) d ∙ h.closed;
-  used = ap (λ k. entry_is_used (entry_at base k)) l ∙ h.used;
-  named = ap (λ k. (entry_at base k).name) l ∙ h.named ∙ ap name_of (sym c);
-}
-for_kept (Truncate d') e e2 base c l d b n h = record {
-  file = h.file;
-  open_is = ap (λ k. slice_index_or e2.devices (device_of k) None) c
-      ∙ ap (λ ds. slice_index_or ds (device_of e.call) None) d ∙ h.open_is;
-  writes = h.writes;
-  slot = l ∙ h.slot;
-  named = n ∙ h.named;
-}
-for_kept (Open name mode) e e2 base c l d b n h = absurd h
-for_kept (Close d') e e2 base c l d b n h = absurd h
-for_kept (Read d' k) e e2 base c l d b n h = absurd h
-for_kept (Write d') e e2 base c l d b n h = absurd h
-for_kept (Getc d') e e2 base c l d b n h = absurd h
-for_kept (Putc d' k) e e2 base c l d b n h = absurd h
-for_kept (Seek d' k) e e2 base c l d b n h = absurd h
-for_kept (Size d') e e2 base c l d b n h = absurd h
+-- what the call is for does not depend on whether its file is cut to nothing yet
+pub for_cut : (call : FileCall) (e : Files) (base : List ℕ) → IsCutFor call (but_blocks e) base
+    → IsCutFor call (but_blocks (record e { entry = record e.entry { size = 0; first = null } })) base
+for_cut (Delete name) e base h = record { slot = h.slot; call = h.call; closed = h.closed; used = h.used; named = h.named }
+for_cut (Truncate d) e base h = record { file = h.file; open_is = h.open_is; writes = h.writes; slot = h.slot; named = h.named }
+for_cut (Open name mode) e base h = absurd h
+for_cut (Close d) e base h = absurd h
+for_cut (Read d k) e base h = absurd h
+for_cut (Write d) e base h = absurd h
+for_cut (Getc d) e base h = absurd h
+for_cut (Putc d k) e base h = absurd h
+for_cut (Seek d k) e base h = absurd h
+for_cut (Size d) e base h = absurd h
 
 -- a file that is cut, with other fields of the engine
 abbrev pub cutting_kept : (e : Files) (ph : Phase) (ix : Index) (hd : Header) (a r f : ℕ) (block : List ℕ) (freed freed2 : ℕ)
@@ -67,8 +47,7 @@ abbrev pub cutting_kept : (e : Files) (ph : Phase) (ix : Index) (hd : Header) (a
     → IsCut e.blocks base made hd e.slot e.entry p c.chain c.blocks r freed2
     → IsCutting (record e { phase = ph; index = ix; header = hd; at = a; reached = r; freed = f; block = block }) freed2 base made
 cutting_kept e ph ix hd a r f block freed freed2 base disk made p c files cut = record {
-  for = for_kept e.call e (record e { phase = ph; index = ix; header = hd; at = a; reached = r; freed = f; block = block }) base
-      refl refl refl refl refl c.for;
+  for = c.for;
   places = p;
   chain = c.chain;
   blocks = c.blocks;

@@ -27,11 +27,11 @@ use Rattle.file_laws.specs.Changing.{IsCut, IsReadBy}
 use Rattle.file_laws.proofs.Middles.{middle_begins}
 use Rattle.file_laws.proofs.Reached.{middle_read, free_data_first, free_data_some}
 use Rattle.file_laws.proofs.Cutting.{cut_begins, cut_data, cut_index}
-use Rattle.local_files.specs.Hands.{IsCutFor, IsCutting, IsCutRead, IsCutWrite, IsFreeWrite}
+use Rattle.local_files.specs.Hands.{IsCutFor, IsCutting, IsCutRead, IsCutWrite, IsFreeWrite, but_blocks}
 use Rattle.local_files.specs.Cuts.{cutting, end_cut, cut_written, freed_index, free_next, free_written}
 use Rattle.local_files.proofs.Closings.{put_whole}
 use Rattle.local_files.proofs.Freeing.{end_cut_goes, some_at, goes_from}
-use Rattle.local_files.proofs.CutSteps.{for_kept, cutting_kept, cut_at_goes, free_next_goes}
+use Rattle.local_files.proofs.CutSteps.{for_cut, cutting_kept, cut_at_goes, free_next_goes}
 use Rattle.local_files.proofs.Standing.{with_block, with_disk}
 use Rattle.local_files.specs.declared.Phase.TheVariants.{Wants}
 use Rattle.local_files.specs.Steps.{going_on, to_write, with_index}
@@ -146,7 +146,7 @@ free_written_goes e e' b base disk phase new s =
 
 -- The file in hand is cut: its blocks are to be freed.
 pub cutting_goes : (e : Files) (base : List ℕ) → IsStanding e base base → e.slot < 78 → entry_at base e.slot ≡ e.entry
-    → entry_is_used e.entry ≡ true → e.header ≡ header_on base → IsCutFor e.call e base
+    → entry_is_used e.entry ≡ true → e.header ≡ header_on base → IsCutFor e.call (but_blocks e) base
     → GoesTo (cutting e.entry e).phase e.call (call_bytes e) e (cutting e.entry e) base base
 cutting_goes e base s slot entry used header for =
     either-way (e.entry.size == 0) (λ v. (e.entry.size == 0) ≡ v → G (if v then end_cut e2 else going_on CutRead e2))
@@ -219,7 +219,7 @@ cutting_goes e base s slot entry used header for =
 
     c2 : IsCutting e2 0 base base
     c2 = record {
-      for = for_kept e.call e e2 base refl refl refl refl refl for;
+      for = for_cut e.call e base for;
       places = p2;
       chain = chain;
       blocks = blocks;

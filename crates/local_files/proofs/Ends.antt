@@ -18,7 +18,7 @@ use Rattle.local_files.specs.declared.Files.{Files}
 use Rattle.local_files.specs.declared.FileCall.{FileCall}
 use Rattle.local_files.specs.declared.FileCall.TheVariants.{Open, Delete, Close, Read, Write, Getc, Putc, Seek, Truncate, Size}
 use Rattle.local_files.specs.declared.Phase.{Phase}
-use Rattle.local_files.specs.Hands.{system, IsEnding, IsMade, IsHeaderWrite, IsDevice, IsOpenOn, AreApart, IsCall, IsWritten, IsEmptied, IsDeleting, files_after, MayLook, name_of, seen, put_bytes}
+use Rattle.local_files.specs.Hands.{system, IsEnding, IsMade, IsHeaderWrite, IsDevice, IsOpenOn, AreApart, IsCall, IsWritten, IsEmptied, IsDeleting, files_after, MayLook, name_of, seen, put_bytes, but_blocks}
 use Rattle.local_files.specs.Steps.{device_at, answered, with_device, lowest_free, shown, kept_at, counted, at_byte, device_of, is_write, is_truncate, has_this_open, is_this_open}
 use Rattle.local_files.specs.Standing.{Stands, InHand, GoesTo, call_bytes, given_bytes}
 use Rattle.local_files.specs.Opens.{opened, ended}
@@ -42,7 +42,7 @@ set_each P e d x h mine others c =
     (cases_eq c d)
 
 -- of the made disk, a device whose file has another slot has it as it was
-open_there : (e : Files) (base made : List ℕ) (o : Option OpenFile) → IsMade e base made → (slot : ℕ) → slot ≡ e.slot → (f : OpenFile)
+open_there : (e : Files) (base made : List ℕ) (o : Option OpenFile) → IsMade (but_blocks e) base made → (slot : ℕ) → slot ≡ e.slot → (f : OpenFile)
     → f.slot ≡ slot → AreApart o (Some f) → IsDevice base o → IsDevice made o
 open_there e base made None m slot q f r a h = tt
 open_there e base made (Some g) m slot q f r a h = record {
@@ -54,7 +54,7 @@ open_there e base made (Some g) m slot q f r a h = record {
 }
 
 -- the device has the new entry
-kept_stands : (e : Files) (base disk made : List ℕ) (d position : ℕ) (f : OpenFile) (reply : ℤ) → Stands e base disk → IsMade e base made
+kept_stands : (e : Files) (base disk made : List ℕ) (d position : ℕ) (f : OpenFile) (reply : ℤ) → Stands e base disk → IsMade (but_blocks e) base made
     → device_at e d ≡ Some f → e.slot ≡ f.slot
     → e.entry.name ≡ f.entry.name → position ≤ e.entry.size
     → Stands (answered reply (with_device d (Some (let g : OpenFile = record f { entry = e.entry; position = position } in g)) e)) made made
@@ -139,7 +139,7 @@ counted_small n h = let t : nat_lt 2147483647 n ≡ false = (let q : n ≤ 21474
     ap (λ v. if v then negsuc 0 else pos n) t
 
 -- `write`
-written_goes : (e : Files) (d : ℕ) (base disk made : List ℕ) → e.call ≡ Write d → Stands e base disk → IsWritten e base → IsMade e base made
+written_goes : (e : Files) (d : ℕ) (base disk made : List ℕ) → e.call ≡ Write d → Stands e base disk → IsWritten (but_blocks e) base → IsMade (but_blocks e) base made
     → GoesTo (ended (Write d) e).phase (Write d) (put_bytes e) e (ended (Write d) e) base made
 written_goes e d base disk made is s w m =
     let f = w.file in
@@ -153,7 +153,7 @@ written_goes e d base disk made is s w m =
     let puts : length (put_bytes e) ≡ e.counters.total = (let t = length-take e.counters.total e.buffer in omega (arith, t, most, long)) in
     let files : stored_files made ≡ with_contents (bare_name (entry_at base e.slot).name)
     (overwritten f.position (take e.counters.done (put_bytes e)) (entry_bytes base (entry_at base e.slot))) (stored_files base) =
-    m.files ∙ ap (λ k. files_after k e base) is
+    m.files ∙ ap (λ k. files_after k (but_blocks e) base) is
     ∙ ap (λ p. with_contents (bare_name (entry_at base e.slot).name)
     (overwritten p (take e.counters.done (put_bytes e)) (entry_bytes base (entry_at base e.slot))) (stored_files base)) w.position in
     let effect = write_effect base made (put_bytes e) d e.slot e.counters.done (seen f)
@@ -173,8 +173,8 @@ written_goes e d base disk made is s w m =
     )
 
 -- `putc`
-putc_goes : (e : Files) (d b : ℕ) (base disk made : List ℕ) → e.call ≡ Putc d b → Stands e base disk → IsWritten e base
-    → put_bytes e ≡ b ∷ [] → IsMade e base made
+putc_goes : (e : Files) (d b : ℕ) (base disk made : List ℕ) → e.call ≡ Putc d b → Stands e base disk → IsWritten (but_blocks e) base
+    → put_bytes e ≡ b ∷ [] → IsMade (but_blocks e) base made
     → GoesTo (ended (Putc d b) e).phase (Putc d b) [] e (ended (Putc d b) e) base made
 putc_goes e d b base disk made is s w one m =
     let f = w.file in
@@ -192,7 +192,7 @@ putc_goes e d b base disk made is s w one m =
     let put : take e.counters.done (put_bytes e) ≡ b ∷ [] = ap (λ k. take k (put_bytes e)) done_is ∙ ap (take 1) one in
     let old = entry_bytes base (entry_at base e.slot) in let name = bare_name (entry_at base e.slot).name in
     let files : stored_files made ≡ with_contents name (overwritten f.position (b ∷ []) old) (stored_files base) =
-    m.files ∙ ap (λ k. files_after k e base) is
+    m.files ∙ ap (λ k. files_after k (but_blocks e) base) is
     ∙ ap (λ p. with_contents name (overwritten p (take e.counters.done (put_bytes e)) old) (stored_files base)) w.position
     ∙ ap (λ x. with_contents name (overwritten f.position x old) (stored_files base)) put in
     let fits : fitting (seen f) (b ∷ []) (system e base) ≡ 1 = ap (λ x. fitting (seen f) x (system e base)) (sym one) ∙ w.fits ∙ done_is in
@@ -211,15 +211,15 @@ putc_goes e d b base disk made is s w one m =
     )
 
 -- `truncate`
-emptied_goes : (e : Files) (d : ℕ) (base disk made : List ℕ) → e.call ≡ Truncate d → Stands e base disk → IsEmptied e base
-    → IsMade e base made
+emptied_goes : (e : Files) (d : ℕ) (base disk made : List ℕ) → e.call ≡ Truncate d → Stands e base disk → IsEmptied (but_blocks e) base
+    → IsMade (but_blocks e) base made
     → GoesTo (ended (Truncate d) e).phase (Truncate d) [] e (ended (Truncate d) e) base made
 emptied_goes e d base disk made is s w m =
     let f = w.file in
     let at : device_at e d ≡ Some f = ap (λ k. device_at e (device_of k)) (sym is) ∙ w.open_is in
     let h = held_file_is e base disk d f s at w.slot in
     let files : stored_files made ≡ with_contents (bare_name (entry_at base e.slot).name) [] (stored_files base) = m.files
-    ∙ ap (λ k. files_after k e base) is in
+    ∙ ap (λ k. files_after k (but_blocks e) base) is in
     let effect = truncate_effect base made [] d e.slot (seen f) (system e base) h.at w.writes refl h.named files in
     let g : Files = with_device d (Some (let g : OpenFile = record f { entry = e.entry; position = 0 } in g)) e in
     let new_is : ended (Truncate d) e ≡ answered (pos 0) g =
@@ -234,7 +234,7 @@ emptied_goes e d base disk made is s w m =
     )
 
 -- of the made disk, a device has its file as it was, if that is another than the deleted one
-deleted_there : (e : Files) (base made name : List ℕ) (o : Option OpenFile) → IsMade e base made → (entry_at base e.slot).name ≡ name
+deleted_there : (e : Files) (base made name : List ℕ) (o : Option OpenFile) → IsMade (but_blocks e) base made → (entry_at base e.slot).name ≡ name
     → has_this_open name o ≡ false → IsDevice base o → IsDevice made o
 deleted_there e base made name None m is closed h = tt
 deleted_there e base made name (Some g) m is closed h =
@@ -247,8 +247,8 @@ deleted_there e base made name (Some g) m is closed h =
     }
 
 -- `delete`
-deleted_goes : (e : Files) (name base disk made : List ℕ) → e.call ≡ Delete name → Stands e base disk → IsDeleting e base
-    → IsMade e base made
+deleted_goes : (e : Files) (name base disk made : List ℕ) → e.call ≡ Delete name → Stands e base disk → IsDeleting (but_blocks e) base
+    → IsMade (but_blocks e) base made
     → GoesTo (ended (Delete name) e).phase (Delete name) [] e (ended (Delete name) e) base made
 deleted_goes e name base disk made is s w m =
     let right : IsCall (Delete name) = subst IsCall is w.call in
@@ -258,7 +258,7 @@ deleted_goes e name base disk made is s w m =
     ∙ w.closed in
     let none : is_this_open name e.devices ≡ false = sym (is_open_same base name e.devices s.clean n s.device) ∙ closed in
     let files : stored_files made ≡ without_file (bare_name (entry_at base e.slot).name) (stored_files base) = m.files
-    ∙ ap (λ k. files_after k e base) is ∙ ap (λ x. without_file (bare_name x) (stored_files base)) (sym named) in
+    ∙ ap (λ k. files_after k (but_blocks e) base) is ∙ ap (λ x. without_file (bare_name x) (stored_files base)) (sym named) in
     let effect = delete_effect base made [] e.slot (system e base) s.clean w.slot w.used (ap (λ x.
     is_open (bare_name x) (system e base)) named ∙ closed) refl files in (
       ap (λ x. model.file_effect (model.Delete (bare_name x)) [] (system e base)) (sym named) ∙ effect,
@@ -293,10 +293,10 @@ header_written_goes e e' base disk phase new s =
     made : List ℕ
     made = block_put disk 0 e.block
 
-    is_made : IsMade e base made
+    is_made : IsMade (but_blocks e) base made
     is_made = hand.made
 
-    by_call : (k : FileCall) → e.call ≡ k → IsEnding k e base
+    by_call : (k : FileCall) → e.call ≡ k → IsEnding k (but_blocks e) base
         → GoesTo (ended k e).phase k (given_bytes k (put_bytes e)) e (ended k e) base made
     by_call (Open name mode) is h =
         let look : MayLook (Open name mode) (system e base) =

@@ -15,7 +15,7 @@ use Rattle.local_files.specs.declared.Files.{Files}
 use Rattle.local_files.specs.declared.FileCall.{FileCall}
 use Rattle.local_files.specs.declared.FileCall.TheVariants.{Open, Delete, Close, Read, Write, Getc, Putc, Seek, Truncate, Size}
 use Rattle.local_files.specs.declared.Phase.{Phase}
-use Rattle.local_files.specs.Hands.{system, IsMade, IsCall, IsEntryBlock, IsHeaderBlock, name_of, put_bytes, name_in_hand}
+use Rattle.local_files.specs.Hands.{system, IsMade, IsCall, IsEntryBlock, IsHeaderBlock, name_of, put_bytes, name_in_hand, but_blocks}
 use Rattle.local_files.specs.Steps.{device_at, device_of}
 use Rattle.local_files.specs.Standing.{Stands, InHand, served, GoesTo, call_bytes, given_bytes, IsStanding}
 use Rattle.local_files.specs.Standing as engine
@@ -126,14 +126,14 @@ end_cut_goes e freed base disk s c all_index all_data = by_call e.call refl c.fo
     none : (c.places.held_index ≡ []) × (c.places.held_data ≡ [])
     none = cut_ends n base disk e.header e.slot e.entry c.places c.chain c.blocks e.reached freed c.cut all_index all_data
 
-    by_call : (k : FileCall) → e.call ≡ k → IsCutFor k e base
+    by_call : (k : FileCall) → e.call ≡ k → IsCutFor k (but_blocks e) base
         → GoesTo (end_cut (record e { call = k })).phase k (given_bytes k (put_bytes e)) e (end_cut (record e { call = k })) base disk
     by_call (Truncate d) is h =
         let e2 : Files = record e { phase = Wants EntryRead; call = Truncate d } in
         let m = c.cut.middle in
         let low = m.low in let size = c.size in
         let made : (eb hb : List ℕ) → IsEntryBlock e2 disk eb → IsHeaderBlock e2 (block_put disk (e.slot / 13) eb) hb
-        → IsMade e2 base (block_put (block_put disk (e.slot / 13) eb) 0 hb) = λ eb hb ee hh. (
+        → IsMade (but_blocks e2) base (block_put (block_put disk (e.slot / 13) eb) 0 hb) = λ eb hb ee hh. (
         let r : IsRewriting disk n e.slot e.entry e.header eb hb =
         record { long = m.long; room = omega (arith, low); slot_is = m.slot_is; entry_block = ee; header_block = hh } in
         let f = middle_ends n base disk e.header e.slot e.entry c.places [] eb hb m none.0 none.1 c.files (omega (arith, size)) r in
@@ -173,7 +173,7 @@ end_cut_goes e freed base disk s c all_index all_data = by_call e.call refl c.fo
         let less : e2.header.files + 1 ≡ (header_on base).files = omega (arith, counted_is, most, some, files, count) in
         let named : (entry_at base e.slot).name ≡ name = h.named ∙ ap name_of is in
         let made : (eb hb : List ℕ) → IsEntryBlock e2 disk eb → IsHeaderBlock e2 (block_put disk (e.slot / 13) eb) hb
-        → IsMade e2 base (block_put (block_put disk (e.slot / 13) eb) 0 hb) = λ eb hb ee hh. (
+        → IsMade (but_blocks e2) base (block_put (block_put disk (e.slot / 13) eb) 0 hb) = λ eb hb ee hh. (
         let r : IsRewriting disk n e.slot e2.entry e2.header eb hb =
         record { long = m.long; room = omega (arith, low); slot_is = m.slot_is; entry_block = ee; header_block = hh } in
         let f = middle_removed n base disk e2.header e.slot e.entry e2.entry c.places [] eb hb (with_files m) (record {

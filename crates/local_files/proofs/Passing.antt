@@ -25,7 +25,7 @@ use Rattle.local_files.specs.declared.Files.{Files}
 use Rattle.local_files.specs.declared.FileCall.{FileCall}
 use Rattle.local_files.specs.declared.FileCall.TheVariants.{Open, Delete, Close, Read, Write, Getc, Putc, Seek, Truncate, Size}
 use Rattle.local_files.specs.declared.Phase.{Phase}
-use Rattle.local_files.specs.Hands.{system, IsSearch, IsFreeSlot, IsMade, IsEnding, IsCall, name_of, put_bytes, files_after, MayLook}
+use Rattle.local_files.specs.Hands.{system, IsSearch, IsFreeSlot, IsMade, IsEnding, IsCall, name_of, put_bytes, files_after, MayLook, but_blocks}
 use Rattle.local_files.specs.Steps.{answered}
 use Rattle.local_files.specs.Standing.{Stands, InHand, GoesTo, given_bytes, call_bytes}
 use Rattle.local_files.specs.Opens.{IsNoted, IsLook, missing, searching_on}
@@ -121,14 +121,14 @@ missing_open e name mode slot header base call right look s none free counts =
     let f = free.found low in
     let becomes : (eb hb : List ℕ) → IsDirBlock (dir_with_entry (dir_of (block_in base (slot / 13))) (slot % 13) (empty_entry name)) eb
     → IsDirBlock (dir_with_header (dir_of (block_in (block_put base (slot / 13) eb) 0)) (one_more header)) hb
-    → IsMade e2 base (block_put (block_put base (slot / 13) eb) 0 hb) = λ eb hb ee hh. (
+    → IsMade (but_blocks e2) base (block_put (block_put base (slot / 13) eb) 0 hb) = λ eb hb ee hh. (
     let Q : Header → Type 0 = λ x. IsDirBlock (dir_with_header (dir_of (block_in (block_put base (slot / 13) eb) 0)) (one_more x)) hb in
     let m = created base slot name eb hb s.clean low f.1 right.0 right.1 none ee (subst Q counts hh) in
     record {
       clean = m.clean;
       size = m.size;
       files = m.files
-          ∙ ap (λ q. files_after q e2 base) (sym call);
+          ∙ ap (λ q. files_after q (but_blocks e2) base) (sym call);
       entry = m.entry;
       others = m.others;
     }) in (
@@ -141,7 +141,7 @@ missing_open e name mode slot header base call right look s none free counts =
           next = λ eb ee rests busy.
               creating_holds base slot (empty_entry name) eb rests s.clean low f.1 ee
               (sym (ap (λ v. rests (bare_name (if v then (entry_at base slot).name else name))) f.1) ∙ busy);
-          ending = (let E : FileCall → Type 0 = λ q. IsEnding q e2 base in
+          ending = (let E : FileCall → Type 0 = λ q. IsEnding q (but_blocks e2) base in
               subst E (sym call) (record {
                 slot = low;
                 call = subst IsCall (sym call) right;

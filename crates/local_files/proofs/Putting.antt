@@ -12,7 +12,7 @@ use Rattle.file_laws.proofs.Counted.{entry_small}
 use Rattle.local_files.specs.declared.Files.{Files}
 use Rattle.local_files.specs.declared.FileCall.{FileCall}
 use Rattle.local_files.specs.declared.FileCall.TheVariants.{Open, Delete, Close, Read, Write, Getc, Putc, Seek, Truncate, Size}
-use Rattle.local_files.specs.Hands.{system, IsEnding, IsMade, IsOpenOn, IsWritten, IsEntryBlock, IsHeaderBlock, files_after, seen, put_bytes, put_files, name_in_hand}
+use Rattle.local_files.specs.Hands.{system, IsEnding, IsMade, IsOpenOn, IsWritten, IsEntryBlock, IsHeaderBlock, files_after, seen, put_bytes, put_files, name_in_hand, but_blocks}
 use Rattle.local_files.specs.Putting.{IsPutting, IsPut}
 use Rattle.local_files.specs.Steps.{device_at, answered, shown, at_byte, device_of, or_none, named_device}
 use Rattle.local_files.specs.Standing.{Stands, GoesTo, call_bytes, given_bytes, IsStanding}
@@ -202,7 +202,7 @@ end_put_goes e base disk p s u no_index no_data fresh end =
     refused (Truncate a) is h z = absurd h
     refused (Size a) is h z = absurd h
 
-    written : 0 < e.counters.done → IsWritten e2 base
+    written : 0 < e.counters.done → IsWritten (but_blocks e2) base
     written some = record {
       file = u.file;
       open_is = u.open_is;
@@ -218,7 +218,7 @@ end_put_goes e base disk p s u no_index no_data fresh end =
           ∙ ap (λ (x : Entry). x.name) (put_entry_is e base disk p s u);
     }
 
-    ending : (c : FileCall) → e.call ≡ c → IsPut c (put_bytes e) → 0 < e.counters.done → IsEnding c e2 base
+    ending : (c : FileCall) → e.call ≡ c → IsPut c (put_bytes e) → 0 < e.counters.done → IsEnding c (but_blocks e2) base
     ending (Write d) is h some = written some
     ending (Putc d b) is h some = (written some, h)
     ending (Open a b) is h some = absurd h
@@ -230,7 +230,7 @@ end_put_goes e base disk p s u no_index no_data fresh end =
     ending (Truncate a) is h some = absurd h
     ending (Size a) is h some = absurd h
 
-    after : (c : FileCall) → IsPut c (put_bytes e) → put_files e base ≡ files_after c e2 base
+    after : (c : FileCall) → IsPut c (put_bytes e) → put_files e base ≡ files_after c (but_blocks e2) base
     after (Write d) h = refl
     after (Putc d b) h = refl
     after (Open a b) h = absurd h
@@ -243,7 +243,7 @@ end_put_goes e base disk p s u no_index no_data fresh end =
     after (Size a) h = absurd h
 
     made : (eb hb : List ℕ) → IsEntryBlock e2 disk eb → IsHeaderBlock e2 (block_put disk (e.slot / 13) eb) hb
-        → IsMade e2 base (block_put (block_put disk (e.slot / 13) eb) 0 hb)
+        → IsMade (but_blocks e2) base (block_put (block_put disk (e.slot / 13) eb) 0 hb)
     made eb hb ee hh =
         let m = u.middle in let low = m.low in
         let r : IsRewriting disk e.blocks e.slot e.entry e.header eb hb =

@@ -21,7 +21,7 @@ use Rattle.local_files.specs.declared.Files.{Files}
 use Rattle.local_files.specs.declared.FileCall.{FileCall}
 use Rattle.local_files.specs.declared.FileCall.TheVariants.{Open, Delete, Close, Read, Write, Getc, Putc, Seek, Truncate, Size}
 use Rattle.local_files.specs.declared.Phase.{Phase}
-use Rattle.local_files.specs.Hands.{system, IsEnding, IsCutFor, IsEmptied, IsDeleting, name_of, put_bytes, seen}
+use Rattle.local_files.specs.Hands.{system, IsEnding, IsCutFor, IsEmptied, IsDeleting, name_of, put_bytes, seen, but_blocks}
 use Rattle.local_files.specs.Putting.{IsPut, IsPutting, IsReady, IsPatch, IsTaken, IsNew}
 use Rattle.local_files.specs.Puts.{at_end}
 use Rattle.local_files.specs.Resting.{WillBeRefused}
@@ -153,7 +153,7 @@ module _ (e : Files) (base disk : List ℕ) (s : Stands e base disk) where
   Goes c = reply_for c e base ≢ negsuc 0
 
   -- a file that is deleted is there
-  deletes : (name : List ℕ) → e.call ≡ Delete name → IsDeleting e base → Goes (Delete name)
+  deletes : (name : List ℕ) → e.call ≡ Delete name → IsDeleting (but_blocks e) base → Goes (Delete name)
   deletes name is h =
       let named : (entry_at base e.slot).name ≡ name = h.named ∙ ap name_of is in
       let closed : is_open (bare_name (entry_at base e.slot).name) (system e base) ≡ false =
@@ -162,13 +162,13 @@ module _ (e : Files) (base disk : List ℕ) (s : Stands e base disk) where
       subst P named (delete_granted base [] e.slot (system e base) s.clean h.slot h.used closed refl)
 
   -- a file that is emptied may be written
-  empties : (d : ℕ) → e.call ≡ Truncate d → IsEmptied e base → Goes (Truncate d)
+  empties : (d : ℕ) → e.call ≡ Truncate d → IsEmptied (but_blocks e) base → Goes (Truncate d)
   empties d is h =
       truncate_granted [] d (seen h.file) (system e base)
       (open_seen e base d h.file (ap (λ k. device_at e (device_of k)) (sym is) ∙ h.open_is)) h.writes
 
   -- a call that cuts its file isn't refused
-  cuts : (c : FileCall) → e.call ≡ c → IsCutFor c e base → Goes c
+  cuts : (c : FileCall) → e.call ≡ c → IsCutFor c (but_blocks e) base → Goes c
   cuts (Delete name) is h = deletes name is h
   cuts (Truncate d) is h = empties d is h
   cuts (Open a b) is h = absurd h
@@ -181,7 +181,7 @@ module _ (e : Files) (base disk : List ℕ) (s : Stands e base disk) where
   cuts (Size a) is h = absurd h
 
   -- a call that writes the directory isn't refused
-  ends : (c : FileCall) → e.call ≡ c → IsEnding c e base → Goes c
+  ends : (c : FileCall) → e.call ≡ c → IsEnding c (but_blocks e) base → Goes c
   ends (Open name mode) is h = λ refused. absurd (cc (sym (ap (λ (x : systems.FileEffect). x.reply) (creates e name mode base disk is s h)) ∙ refused))
   ends (Delete name) is h = deletes name is h
   ends (Write d) is h =

@@ -22,6 +22,7 @@ use Rattle.local_files.specs.declared.OpenFile.{OpenFile}
 use Rattle.local_files.specs.declared.FileCall.{FileCall}
 use Rattle.local_files.specs.declared.FileCall.TheVariants.{Open, Delete, Read, Write, Getc, Putc, Truncate}
 use Rattle.local_files.specs.declared.Counters.{Counters}
+use Rattle.local_files.specs.declared.Phase.TheVariants.{Idle}
 use Rattle.local_files.specs.declared.Files.{Files}
 
 -- what the abstract machine sees of the engine, over the disk as it was when the call in hand began
@@ -44,6 +45,18 @@ name_of _ = []
 -- the bytes that the call in hand puts
 abbrev pub put_bytes : Files → List ℕ
 put_bytes e = take e.counters.total e.buffer
+
+-- The engine but for the blocks that it works on and the counts: what a call is for, and what it has done, is said of the rest.
+abbrev pub but_blocks : Files → Files
+but_blocks e = record e {
+  phase = Idle;
+  header = record { free_data = 0; free_index = 0; files = 0 };
+  block = [];
+  index = record { next = 0; offset = 0; blocks = [] };
+  at = 0;
+  reached = 0;
+  freed = 0;
+}
 
 -- what the abstract machine has for an open file
 abbrev pub seen : OpenFile → systems.OpenFile
@@ -222,35 +235,35 @@ HoldsOthers e base disk = (rests : List ℕ → Bool) → rests (bare_name (name
 
 -- the entry's block is to be written: whatever blocks come of the two writes, the disk is made
 pub record IsClosing (e : Files) (base disk : List ℕ) : Type 0 where
-  pub ending : IsEnding e.call e base
+  pub ending : IsEnding e.call (but_blocks e) base
   pub slot : e.slot < 78
   pub held : HoldsOthers e base disk
   pub next : (eb : List ℕ) → IsEntryBlock e disk eb → HoldsOthers e base (block_put disk (e.slot / 13) eb)
   pub made : (eb hb : List ℕ) → IsEntryBlock e disk eb → IsHeaderBlock e (block_put disk (e.slot / 13) eb) hb
-      → IsMade e base (block_put (block_put disk (e.slot / 13) eb) 0 hb)
+      → IsMade (but_blocks e) base (block_put (block_put disk (e.slot / 13) eb) 0 hb)
 
 -- the entry's block is to be written as it is in hand
 pub record IsEntryWrite (e : Files) (base disk : List ℕ) : Type 0 where
-  pub ending : IsEnding e.call e base
+  pub ending : IsEnding e.call (but_blocks e) base
   pub slot : e.slot < 78
   pub held : HoldsOthers e base disk
   pub next : HoldsOthers e base (block_put disk (e.slot / 13) e.block)
   pub made : (hb : List ℕ) → IsHeaderBlock e (block_put disk (e.slot / 13) e.block) hb
-      → IsMade e base (block_put (block_put disk (e.slot / 13) e.block) 0 hb)
+      → IsMade (but_blocks e) base (block_put (block_put disk (e.slot / 13) e.block) 0 hb)
 
 -- it is written, and the counts are to be
 pub record IsHeaderRead (e : Files) (base disk : List ℕ) : Type 0 where
-  pub ending : IsEnding e.call e base
+  pub ending : IsEnding e.call (but_blocks e) base
   pub slot : e.slot < 78
   pub held : HoldsOthers e base disk
-  pub made : (hb : List ℕ) → IsHeaderBlock e disk hb → IsMade e base (block_put disk 0 hb)
+  pub made : (hb : List ℕ) → IsHeaderBlock e disk hb → IsMade (but_blocks e) base (block_put disk 0 hb)
 
 -- they are to be written as they are in hand
 pub record IsHeaderWrite (e : Files) (base disk : List ℕ) : Type 0 where
-  pub ending : IsEnding e.call e base
+  pub ending : IsEnding e.call (but_blocks e) base
   pub slot : e.slot < 78
   pub held : HoldsOthers e base disk
-  pub made : IsMade e base (block_put disk 0 e.block)
+  pub made : IsMade (but_blocks e) base (block_put disk 0 e.block)
 
 -- Cutting.
 
@@ -262,7 +275,7 @@ IsCutFor _ e base = ⊥
 
 -- the file in hand is cut to nothing: of its blocks, by its size on the base, the first ones are free
 pub record IsCutting (e : Files) (freed : ℕ) (base disk : List ℕ) : Type 0 where
-  pub for : IsCutFor e.call e base
+  pub for : IsCutFor e.call (but_blocks e) base
   pub places : Places
   pub chain : List ℕ
   pub blocks : List ℕ
