@@ -12,7 +12,8 @@ use Rattle.local_files.specs.declared.Files.{Files}
 use Rattle.local_files.specs.declared.FileCall.{FileCall}
 use Rattle.local_files.specs.declared.FileCall.TheVariants.{Open, Delete, Read, Write, Getc, Putc, Truncate}
 use Rattle.local_files.specs.Hands.{system}
-use Rattle.local_files.specs.Steps.{shown, device_at, answered, with_device, moved_to, lowest_free, is_truncate, going_on}
+use Rattle.local_files.specs.Steps.{shown, device_at, answered, with_device, moved_to, lowest_free, is_truncate}
+use Rattle.local_files.specs.Wanted.{going_on}
 use Rattle.local_files.specs.Standing.{Stands, call_of, given_bytes}
 use Rattle.local_files.specs.Takes.{reading_at}
 use Rattle.local_files.specs.Cuts.{truncating_at, held_file}

@@ -24,7 +24,8 @@ use Rattle.local_files.specs.declared.Phase.{Phase}
 use Rattle.local_files.specs.Hands.{system, name_of, IsSearch, IsReading, IsFetching, IsCutRead, IsCutWrite, IsFreeWrite}
 use Rattle.local_files.specs.Putting.{IsCounting, IsBegun, IsPatched, IsAddWrite, IsNewWrite, IsLinkWrite}
 use Rattle.local_files.specs.Standing.{Stands, InHand, call_of}
-use Rattle.local_files.specs.Steps.{answered, at_byte, device_at, device_of, lowest_free, is_truncate, going_on, to_write, with_piece, with_free_data, with_free_index, with_index}
+use Rattle.local_files.specs.Steps.{answered, at_byte, device_at, device_of, lowest_free, is_truncate, with_piece, with_free_data, with_free_index, with_index}
+use Rattle.local_files.specs.Wanted.{going_on, to_write}
 use Rattle.local_files.specs.Takes.{walked, fetched}
 use Rattle.local_files.specs.Puts.{target, counts_read, reached, next_put, put_done, take_written, added_index, new_written, followed}
 use Rattle.local_files.specs.Cuts.{cutting, cut_written, free_next, free_written}

@@ -7,7 +7,8 @@ use Rattle.local_files.specs.declared.FileCall.{FileCall}
 use Rattle.local_files.specs.declared.FileCall.TheVariants.{Open, Delete, Close, Read, Write, Getc, Putc, Seek, Truncate, Size}
 use Rattle.local_files.specs.declared.Phase.{Phase}
 use Rattle.local_files.specs.Hands.{but_blocks}
-use Rattle.local_files.specs.Steps.{answered, going_on}
+use Rattle.local_files.specs.Steps.{answered}
+use Rattle.local_files.specs.Wanted.{going_on}
 use Rattle.local_files.specs.Standing.{GoesTo, call_bytes, IsStanding}
 use Rattle.std.proofs.Common.{◌-◌, ◌*◌, replicate, length-append, min}
 use Rattle.byteorder.specs.Endian.{little_bytes}

@@ -34,7 +34,8 @@ use Rattle.local_files.proofs.Freeing.{end_cut_goes, some_at, goes_from}
 use Rattle.local_files.proofs.CutSteps.{for_cut, cutting_kept, cut_at_goes, free_next_goes}
 use Rattle.local_files.proofs.Standing.{with_block, with_disk}
 use Rattle.local_files.specs.declared.Phase.TheVariants.{Wants}
-use Rattle.local_files.specs.Steps.{going_on, to_write, with_index}
+use Rattle.local_files.specs.Steps.{with_index}
+use Rattle.local_files.specs.Wanted.{going_on, to_write}
 use Rattle.local_files.specs.declared.Purpose.TheVariants.{CutRead, CutWrite, FreeWrite}
 
 -- The index block was read.

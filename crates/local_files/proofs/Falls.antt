@@ -7,7 +7,8 @@ use Rattle.lfs_format.specs.declared.Entry.{Entry}
 use Rattle.lfs_check.specs.Meets.{null}
 use Rattle.lfs_check.specs.Disks.{entry_at}
 use Rattle.local_files.specs.declared.Files.{Files}
-use Rattle.local_files.specs.Steps.{answered, at_byte, piece, is_getc, is_delete, device_at, moved_to, counted, named_device, going_on}
+use Rattle.local_files.specs.Steps.{answered, at_byte, piece, is_getc, is_delete, device_at, moved_to, counted, named_device}
+use Rattle.local_files.specs.Wanted.{going_on}
 use Rattle.local_files.specs.Takes.{walked, fetched, with_taken, next_fetch, finished_read}
 use Rattle.local_files.specs.Puts.{end_put, at_end, target, reach_to, appending, in_place, next_put}
 use Rattle.local_files.specs.Cuts.{end_cut, freeing, free_next, word_block, cutting}

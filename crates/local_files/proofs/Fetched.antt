@@ -16,7 +16,8 @@ use Rattle.local_files.specs.declared.FileCall.{FileCall}
 use Rattle.local_files.specs.declared.FileCall.TheVariants.{Open, Delete, Close, Read, Write, Getc, Putc, Seek, Truncate, Size}
 use Rattle.local_files.specs.declared.Phase.{Phase}
 use Rattle.local_files.specs.Hands.{system, IsOpenOn, seen, put_bytes, IsReading, IsFetching, read_count}
-use Rattle.local_files.specs.Steps.{device_at, answered, with_device, shown, at_byte, device_of, piece, or_none, named_device, moved_to, going_on}
+use Rattle.local_files.specs.Steps.{device_at, answered, with_device, shown, at_byte, device_of, piece, or_none, named_device, moved_to}
+use Rattle.local_files.specs.Wanted.{going_on}
 use Rattle.local_files.specs.Standing.{Stands, InHand, GoesTo, call_bytes, given_bytes, IsStanding}
 use Rattle.local_files.proofs.Devices.{shown_set, shown_at}
 use Rattle.xinu_model.specs.Files.Systems as systems

@@ -10,7 +10,8 @@ use Rattle.local_files.specs.declared.Files.{Files}
 use Rattle.local_files.specs.declared.Phase.{Phase}
 use Rattle.local_files.specs.Hands.{put_bytes}
 use Rattle.local_files.specs.Putting.{IsTake, IsTakeWrite, IsFilled}
-use Rattle.local_files.specs.Steps.{answered, at_byte, piece, going_on, to_write, with_piece, with_free_data}
+use Rattle.local_files.specs.Steps.{answered, at_byte, piece, with_piece, with_free_data}
+use Rattle.local_files.specs.Wanted.{going_on, to_write}
 use Rattle.local_files.specs.Standing.{Stands, InHand, GoesTo, call_bytes}
 use Rattle.local_files.proofs.Closings.{put_whole}
 use Rattle.xinu_model.specs.Files.Writing.{overwritten}

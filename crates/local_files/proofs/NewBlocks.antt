@@ -9,7 +9,8 @@ use Rattle.local_files.specs.declared.Files.{Files}
 use Rattle.local_files.specs.declared.Phase.{Phase}
 use Rattle.local_files.specs.Hands.{put_bytes}
 use Rattle.local_files.specs.Putting.{IsPutting, IsAt}
-use Rattle.local_files.specs.Steps.{at_byte, piece, to_write, with_free_index}
+use Rattle.local_files.specs.Steps.{at_byte, piece, with_free_index}
+use Rattle.local_files.specs.Wanted.{to_write}
 use Rattle.local_files.specs.Standing.{Stands, InHand, GoesTo, call_bytes}
 use Rattle.local_files.proofs.Closings.{put_whole}
 use Rattle.xinu_model.specs.Files.Writing.{overwritten}

@@ -10,7 +10,8 @@ use Rattle.local_files.specs.declared.Files.{Files}
 use Rattle.local_files.specs.declared.Phase.{Phase}
 use Rattle.local_files.specs.Hands.{put_bytes}
 use Rattle.local_files.specs.Putting.{IsPutting, IsReady, IsAt, IsReach, IsPatch, IsPatched}
-use Rattle.local_files.specs.Steps.{answered, at_byte, piece, to_write, with_piece}
+use Rattle.local_files.specs.Steps.{answered, at_byte, piece, with_piece}
+use Rattle.local_files.specs.Wanted.{to_write}
 use Rattle.local_files.specs.Standing.{Stands, InHand, GoesTo, call_bytes, IsStanding}
 use Rattle.local_files.proofs.Closings.{put_whole}
 use Rattle.xinu_model.specs.Files.Writing.{overwritten}

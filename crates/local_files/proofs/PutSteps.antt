@@ -8,7 +8,8 @@ use Rattle.local_files.specs.declared.Files.{Files}
 use Rattle.local_files.specs.declared.Phase.{Phase}
 use Rattle.local_files.specs.Hands.{put_bytes}
 use Rattle.local_files.specs.Putting.{IsPutting, IsReady, IsAt}
-use Rattle.local_files.specs.Steps.{answered, at_byte, going_on}
+use Rattle.local_files.specs.Steps.{answered, at_byte}
+use Rattle.local_files.specs.Wanted.{going_on}
 use Rattle.local_files.specs.Standing.{GoesTo, call_bytes, IsStanding}
 use Rattle.xinu_model.specs.Files.Writing.{overwritten}
 use Rattle.std.proofs.Common.{◌-◌, drop}

@@ -8,7 +8,8 @@ use Rattle.local_files.specs.declared.Files.{Files}
 use Rattle.local_files.specs.declared.FileCall.{FileCall}
 use Rattle.local_files.specs.declared.FileCall.TheVariants.{Read, Getc}
 use Rattle.local_files.specs.Hands.{system, IsOpenOn, IsCall, seen, put_bytes, IsReading, read_count}
-use Rattle.local_files.specs.Steps.{device_at, answered, shown, or_none, named_device, going_on}
+use Rattle.local_files.specs.Steps.{device_at, answered, shown, or_none, named_device}
+use Rattle.local_files.specs.Wanted.{going_on}
 use Rattle.local_files.specs.Standing.{Stands, GoesTo, given_bytes, IsStanding}
 use Rattle.local_files.proofs.Devices.{device_some, answered_stands, shown_at, open_size}
 use Rattle.xinu_model.specs.Files.Systems as systems

@@ -13,7 +13,8 @@ use Rattle.local_files.specs.declared.OpenFile.{OpenFile}
 use Rattle.local_files.specs.declared.Files.{Files}
 use Rattle.local_files.specs.declared.Phase.{Phase}
 use Rattle.local_files.specs.Hands.{IsDevice, IsOpenOn, IsReading, IsWalking, read_count, AreApart}
-use Rattle.local_files.specs.Steps.{device_at, answered, at_byte, device_of, with_device, going_on}
+use Rattle.local_files.specs.Steps.{device_at, answered, at_byte, device_of, with_device}
+use Rattle.local_files.specs.Wanted.{going_on}
 use Rattle.local_files.specs.Standing.{Stands, InHand, GoesTo, call_bytes, given_bytes, IsStanding}
 use Rattle.lfs_format.specs.Directory.{void_entry}
 use Rattle.lfs_format.specs.declared.Index.{Index}

@@ -4,7 +4,8 @@ use Rattle.byteorder.specs.Endian.{little_bytes}
 use Rattle.lfs_format.specs.declared.Entry.{Entry}
 use Rattle.lfs_format.specs.declared.Index.{Index}
 use Rattle.lfs_check.specs.Meets.{null}
-use Rattle.local_files.specs.Steps.{answered, moved_to, device_at, is_delete, going_on}
+use Rattle.local_files.specs.Steps.{answered, moved_to, device_at, is_delete}
+use Rattle.local_files.specs.Wanted.{going_on}
 use Rattle.local_files.specs.declared.OpenFile.{OpenFile}
 use Rattle.local_files.specs.declared.FileCall.{FileCall}
 use Rattle.local_files.specs.declared.Files.{Files}

@@ -15,7 +15,8 @@ use Rattle.xinu_model.specs.Files.Writing.{overwritten, fitting}
 use Rattle.file_laws.specs.StoredFiles.{stored_files, entry_bytes, entry_chain, entry_data}
 use Rattle.file_laws.specs.Changing.{IsCut}
 use Rattle.file_laws.specs.Holds.{Holds}
-use Rattle.local_files.specs.Steps.{shown, device_at, device_of, block_of_index}
+use Rattle.local_files.specs.Steps.{shown, device_at, device_of}
+use Rattle.local_files.specs.Wanted.{block_of_index}
 use Rattle.local_files.specs.Cuts.{word_block, freed_index}
 use Rattle.xinu_base.specs.declared.files.OpenMode.{OpenMode}
 use Rattle.local_files.specs.declared.OpenFile.{OpenFile}

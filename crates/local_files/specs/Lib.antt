@@ -1,5 +1,6 @@
 pub mod Buffers
 pub mod Steps
+pub mod Wanted
 pub mod Takes
 pub mod Cuts
 pub mod Puts

@@ -5,7 +5,8 @@ use Rattle.lfs_format.specs.declared.Dir.{Dir}
 use Rattle.lfs_check.specs.Fields.{header_2}
 use Rattle.lfs_check.specs.Meets.{null}
 use Rattle.local_files.specs.Buffers.{put_at}
-use Rattle.local_files.specs.Steps.{answered, at_byte, is_truncate, going_on, done_more}
+use Rattle.local_files.specs.Steps.{answered, at_byte, is_truncate, done_more}
+use Rattle.local_files.specs.Wanted.{going_on}
 use Rattle.local_files.specs.Cuts.{cutting, held_file}
 use Rattle.local_files.specs.declared.OpenFile.{OpenFile}
 use Rattle.local_files.specs.declared.FileCall.{FileCall}

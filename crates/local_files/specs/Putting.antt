@@ -8,7 +8,8 @@ use Rattle.lfs_check.specs.Disks.{entry_at, header_on}
 use Rattle.xinu_model.specs.Files.Writing.{overwritten}
 use Rattle.file_laws.specs.StoredFiles.{entry_bytes}
 use Rattle.file_laws.specs.Middle.{IsMiddle}
-use Rattle.local_files.specs.Steps.{device_at, device_of, at_byte, piece, is_truncate, block_of_index, with_piece}
+use Rattle.local_files.specs.Steps.{device_at, device_of, at_byte, piece, is_truncate, with_piece}
+use Rattle.local_files.specs.Wanted.{block_of_index}
 use Rattle.local_files.specs.Puts.{at_end, target, fresh_index, linked_index, added_index}
 use Rattle.local_files.specs.declared.OpenFile.{OpenFile}
 use Rattle.local_files.specs.declared.FileCall.{FileCall}

@@ -7,7 +7,7 @@ use Rattle.xinu_model.specs.Files.Systems.{is_open}
 use Rattle.xinu_model.specs.Files.Work.{FileRequest, FileWork}
 use Rattle.xinu_model.specs.Files.Rest.{names_file}
 use Rattle.local_files.specs.Hands.{system}
-use Rattle.local_files.specs.Steps.{block_of}
+use Rattle.local_files.specs.Wanted.{block_of}
 use Rattle.local_files.specs.Standing.{wanted, call_of, call_bytes}
 use Rattle.local_files.specs.declared.BlockWork.{BlockWork}
 use Rattle.local_files.specs.declared.Files.{Files}

@@ -6,7 +6,8 @@ use Rattle.lfs_layout.specs.Files.{bare_name}
 use Rattle.lfs_layout.specs.Images.{IsCleanImage}
 use Rattle.xinu_model.specs.Files.Calls as model
 use Rattle.xinu_model.specs.Files.Systems.{FileSystem, FileEffect}
-use Rattle.local_files.specs.Steps.{at_byte, block_for}
+use Rattle.local_files.specs.Steps.{at_byte}
+use Rattle.local_files.specs.Wanted.{block_for}
 use Rattle.local_files.specs.Hands.{system, IsDevice, AreApart, put_bytes, IsSearch, IsWalking, IsFetching, IsCutRead, IsCutWrite, IsFreeWrite, IsClosing, IsEntryWrite, IsHeaderRead, IsHeaderWrite}
 use Rattle.local_files.specs.Putting.{IsCounting, IsReach, IsPatch, IsPatched, IsTake, IsTakeWrite, IsFilled, IsAddWrite, IsNewWrite, IsLink, IsLinkWrite}
 use Rattle.local_files.specs.declared.BlockWork.{BlockWork}

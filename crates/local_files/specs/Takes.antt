@@ -2,7 +2,8 @@
 use Rattle.std.specs.Prelude.{ℕ, zero, suc, ◌-◌, ◌/◌, ◌%◌, ◌==◌, not, nat_le, if◌then◌else◌, min, List, take, drop, Option, Some, None, slice_index, pos, negsuc}
 use Rattle.lfs_format.specs.declared.Index.{Index}
 use Rattle.local_files.specs.Buffers.{put_at}
-use Rattle.local_files.specs.Steps.{is_getc, named_device, answered, device_at, moved_to, counted, at_byte, piece, going_on, done_more}
+use Rattle.local_files.specs.Steps.{is_getc, named_device, answered, device_at, moved_to, counted, at_byte, piece, done_more}
+use Rattle.local_files.specs.Wanted.{going_on}
 use Rattle.local_files.specs.declared.OpenFile.{OpenFile}
 use Rattle.local_files.specs.declared.FileCall.{FileCall}
 use Rattle.local_files.specs.declared.Files.{Files}

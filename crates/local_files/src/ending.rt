@@ -3,7 +3,8 @@
 ghost use Rattle.std.specs.Prelude.{◌≡◌, ◌+◌, ◌/◌, ◌%◌, ◌<◌, ℕ, pos, Some};
 ghost use Rattle.lfs_format.specs.Directory.{dir_of, IsDirBlock};
 ghost use Rattle.lfs_check.specs.Disks.{dir_with_entry, dir_with_header};
-ghost use Rattle.local_files.specs.Steps.{lowest_free, named_device, to_write};
+ghost use Rattle.local_files.specs.Steps.{lowest_free, named_device};
+ghost use Rattle.local_files.specs.Wanted.{to_write};
 ghost use Rattle.local_files.specs.Opens.{ended, ended_at};
 
 use crate::table::count;

@@ -3,7 +3,8 @@
 ghost use Rattle.std.specs.Prelude.{replicate, ◌≡◌, ◌<◌, ◌≤◌, ◌+◌, ◌/◌, ◌%◌, ℕ, true, false, length};
 ghost use Rattle.lfs_format.specs.Words.{word_of};
 ghost use Rattle.lfs_format.specs.Indexes.{index_at, IsIndexPut};
-ghost use Rattle.local_files.specs.Steps.{at_byte, to_write, with_piece, with_free_data, with_free_index, with_index};
+ghost use Rattle.local_files.specs.Steps.{at_byte, with_piece, with_free_data, with_free_index, with_index};
+ghost use Rattle.local_files.specs.Wanted.{to_write};
 ghost use Rattle.local_files.specs.Puts.{next_put, put_done, take_written, added_index, fresh_index, new_written, followed, linked_index};
 
 use crate::{Files, Phase, Purpose};

@@ -1,7 +1,7 @@
 //! The table of purposes: which block each wants, and whether it is read or written.
 
 ghost use Rattle.std.specs.Prelude.{◌≡◌};
-ghost use Rattle.local_files.specs.Steps.{block_of, block_of_index, block_for, going_on};
+ghost use Rattle.local_files.specs.Wanted.{block_of, block_of_index, block_for, going_on};
 
 use crate::{BlockWork, Files, Phase, Purpose};
 

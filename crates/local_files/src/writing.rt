@@ -3,7 +3,8 @@
 ghost use Rattle.std.specs.Prelude.{◌≡◌, ◌≢◌, ◌<◌, ◌≤◌, ◌+◌, ◌-◌, ◌/◌, ◌%◌, ℕ, true, false, Some, None, negsuc, pos, length};
 ghost use Rattle.lfs_format.specs.Indexes.{index_at};
 ghost use Rattle.lfs_format.specs.Directory.{dir_of};
-ghost use Rattle.local_files.specs.Steps.{device_at, at_byte, to_write, with_piece};
+ghost use Rattle.local_files.specs.Steps.{device_at, at_byte, with_piece};
+ghost use Rattle.local_files.specs.Wanted.{to_write};
 ghost use Rattle.local_files.specs.Cuts.{held_file};
 ghost use Rattle.local_files.specs.Puts.{writing_at, writing, counts_read, next_put, end_put, at_end, target, appending, in_place, reach_to, reached, put_done};
 
