@@ -3,6 +3,8 @@ use Rattle.std.specs.Prelude.{◌≤◌}
 use Rattle.rv_isa.specs.Encoding.{fixed}
 use Rattle.rv_isa.specs.Table.{form_of}
 use Rattle.asm_syntax.specs.Meanings as spec
+use Rattle.asm_syntax.specs.declared.statements.HeaderField.{HeaderField}
+use Rattle.asm_syntax.specs.declared.statements.HeaderField.TheVariants.{PlaceField, PriorityField, StackField}
 use Rattle.asm_syntax.specs.declared.meanings.Meaning.{Meaning}
 use Rattle.asm_syntax.specs.declared.meanings.Meaning.TheVariants.{Instruction, Li, La, Mv, Nop, Jump, Ret, Sys, DotWord, DotByte, DotZero}
 use Rattle.asm_syntax.specs.declared.meanings.Meaning.TheVariants.{DotAscii, DotAlign, DotPlace, DotEntry, DotPriority, DotStack}
@@ -31,3 +33,9 @@ seen_meaning DotStack = spec.DotStack
 abbrev pub HasRoom : Meaning → Type 0
 HasRoom (Instruction row) = row.bits ≤ fixed (form_of row.form)
 HasRoom meaning = Unit {0}
+
+-- the directive that sets a field of the header
+abbrev pub directive_of : HeaderField → spec.Meaning
+directive_of PlaceField = spec.DotPlace
+directive_of PriorityField = spec.DotPriority
+directive_of StackField = spec.DotStack

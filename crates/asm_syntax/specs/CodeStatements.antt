@@ -2,9 +2,8 @@
 use Rattle.std.specs.Prelude.{◌≡◌, ◌≤◌, ◌<◌, true, is_some, [], ◌∷◌}
 use Rattle.rv_isa.specs.Encoding.{fixed}
 use Rattle.xinu_model.specs.Isa.Instructions.{FormB}
-use Rattle.asm_syntax.specs.CodeValues.{bytes_of}
 use Rattle.asm_syntax.specs.Statements as spec
-use Rattle.asm_syntax.specs.Texts.{text_bytes}
+use Rattle.asm_syntax.specs.Texts.{bytes_of, text_bytes}
 use Rattle.asm_syntax.specs.declared.statements.Statement.{Statement}
 use Rattle.asm_syntax.specs.declared.statements.Statement.TheVariants.{Empty, Malformed, Unresolved, Excessive, One, Two, Branch, JumpTo}
 use Rattle.asm_syntax.specs.declared.statements.Statement.TheVariants.{AddressOf, Word, Byte, Text, WordAt, Zeros, Align, Place, Entry}

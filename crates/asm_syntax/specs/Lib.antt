@@ -8,6 +8,5 @@ pub mod Statements
 pub mod CodeTokens
 pub mod CodeOperands
 pub mod CodeMeanings
-pub mod CodeValues
 pub mod CodeStatements
 pub mod CodeLines

@@ -50,10 +50,16 @@ magnitude (negsuc n) = 0
 abbrev pub within : ℤ → ℤ → ℤ → Statement → Statement
 within low n high statement = if int_le low n && int_le n high then statement else Excessive
 
+-- the statement that sets a field of the header
+abbrev pub setting : HeaderField → ℕ → Statement
+setting PlaceField = Place
+setting PriorityField = Priority
+setting StackField = Stack
+
 -- a number for a field of the header, which may not be negative; whether it fits is judged where it is used
-abbrev pub unsigned : ℤ → HeaderField → (ℕ → Statement) → Statement
-unsigned (pos n) field statement = statement n
-unsigned (negsuc n) field statement = NegativeFor field
+abbrev pub unsigned : ℤ → HeaderField → Statement
+unsigned (pos n) field = setting field n
+unsigned (negsuc n) field = NegativeFor field
 
 -- one instruction
 abbrev pub one : ℕ → Form → ℕ → ℕ → ℕ → ℕ → Statement
@@ -100,10 +106,10 @@ made DotByte (NumberValue n ∷ []) = within (negsuc 127) n (pos 255) (Bytes (wo
 made DotZero (NumberValue n ∷ []) = within (pos 0) n (pos 1048576) (Zeros (magnitude n))
 made DotAscii (TextValue bytes ∷ []) = Bytes bytes
 made DotAlign [] = Align
-made DotPlace (NumberValue n ∷ []) = unsigned n PlaceField Place
+made DotPlace (NumberValue n ∷ []) = unsigned n PlaceField
 made DotEntry (LabelValue l ∷ []) = Entry l
-made DotPriority (NumberValue n ∷ []) = unsigned n PriorityField Priority
-made DotStack (NumberValue n ∷ []) = unsigned n StackField Stack
+made DotPriority (NumberValue n ∷ []) = unsigned n PriorityField
+made DotStack (NumberValue n ∷ []) = unsigned n StackField
 made meaning values = Malformed
 
 -- the statement of a word with an operand that has a name which isn't known; a directive of the header keeps its field, since a repeated

@@ -1,5 +1,5 @@
 -- The bytes that quoted texts stand for.
-use Rattle.std.specs.Prelude.{ℕ, ◌==◌, if◌then◌else◌, ◌||◌, List, [], ◌∷◌, Option, Some, None}
+use Rattle.std.specs.Prelude.{ℕ, ◌==◌, if◌then◌else◌, ◌||◌, List, [], ◌∷◌, Option, Some, None, unwrap_or}
 use Rattle.asm_syntax.specs.Numbers.{is_between}
 
 -- the byte that a backslash and another byte stand for
@@ -21,3 +21,7 @@ abbrev pub text_bytes : List ℕ → Option (List ℕ)
 text_bytes [] = Some []
 text_bytes (b ∷ []) = if b == 92 then None else byte_before (printable b) (Some [])
 text_bytes (b ∷ c ∷ text) = if b == 92 then byte_before (escape c) (text_bytes text) else byte_before (printable b) (text_bytes (c ∷ text))
+
+-- the bytes of a text that stands for bytes
+abbrev pub bytes_of : List ℕ → List ℕ
+bytes_of text = unwrap_or (text_bytes text) []

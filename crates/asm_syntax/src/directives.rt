@@ -1,8 +1,9 @@
 //! The directives, with their operands.
 
-ghost use Rattle.std.specs.Prelude.{◌≡◌, ◌≤ℤ◌, pos, negsuc, ◌%◌, map};
+ghost use Rattle.std.specs.Prelude.{◌≡◌, ◌≤ℤ◌, pos, negsuc, ◌%◌, [], ◌∷◌, map};
 ghost use Rattle.asm_syntax.specs.CodeOperands.{seen_operand};
 ghost use Rattle.asm_syntax.specs.CodeStatements.{seen_statement, IsProper};
+ghost use Rattle.asm_syntax.specs.CodeMeanings.{directive_of};
 ghost use Rattle.asm_syntax.specs.Meanings as meanings;
 ghost use Rattle.asm_syntax.specs.Statements.{made_of};
 ghost use Rattle.asm_syntax.specs.Statements as spec;
@@ -11,7 +12,7 @@ ghost use Rattle.asm_syntax.specs.Values.{fitting};
 use crate::encoding::word_of;
 use crate::operands::Operand;
 use crate::statements::{HeaderField, Statement};
-use crate::values::{Fit, label, number, text};
+use crate::texts::is_text;
 
 /// `.word`: a number or a label.
 pub(crate) fn word<'a>(operands: &[Operand<'a>]) -> Statement<'a>
@@ -37,17 +38,14 @@ pub(crate) fn byte<'a>(operands: &[Operand<'a>]) -> Statement<'a>
     ensures proper { IsProper result }
 {
     match operands {
-        [a] => match number(a) {
-            Fit::Wrong => Statement::Malformed,
-            Fit::Unknown => Statement::Unresolved,
-            Fit::Fits(n) => {
-                if -128 <= n && n <= 255 {
-                    Statement::Byte((word_of(n) % 256) as u8)
-                } else {
-                    Statement::Excessive
-                }
+        [Operand::Number(n)] => {
+            if -128 <= *n && *n <= 255 {
+                Statement::Byte((word_of(*n) % 256) as u8)
+            } else {
+                Statement::Excessive
             }
-        },
+        }
+        [Operand::Name(_)] => Statement::Unresolved,
         _ => Statement::Malformed,
     }
 }
@@ -58,17 +56,14 @@ pub(crate) fn zeros<'a>(operands: &[Operand<'a>]) -> Statement<'a>
     ensures proper { IsProper result }
 {
     match operands {
-        [a] => match number(a) {
-            Fit::Wrong => Statement::Malformed,
-            Fit::Unknown => Statement::Unresolved,
-            Fit::Fits(n) => {
-                if 0 <= n && n <= 1_048_576 {
-                    Statement::Zeros(n as u32)
-                } else {
-                    Statement::Excessive
-                }
+        [Operand::Number(n)] => {
+            if 0 <= *n && *n <= 1_048_576 {
+                Statement::Zeros(*n as u32)
+            } else {
+                Statement::Excessive
             }
-        },
+        }
+        [Operand::Name(_)] => Statement::Unresolved,
         _ => Statement::Malformed,
     }
 }
@@ -79,11 +74,24 @@ pub(crate) fn ascii<'a>(operands: &[Operand<'a>]) -> Statement<'a>
     ensures proper { IsProper result }
 {
     match operands {
-        [a] => match text(a) {
-            Fit::Wrong => Statement::Malformed,
-            Fit::Unknown => Statement::Unresolved,
-            Fit::Fits(bytes) => Statement::Text(bytes),
-        },
+        [operand] => quoted(operand),
+        _ => Statement::Malformed,
+    }
+}
+
+// The statement of an operand that has to be a text.
+fn quoted<'a>(operand: &Operand<'a>) -> Statement<'a>
+    ensures statement { seen_statement result ≡ made_of meanings.DotAscii (fitting (meanings.TextSlot ∷ []) (seen_operand operand.now ∷ [])) }
+    ensures proper { IsProper result }
+{
+    match operand {
+        Operand::Text(text) => {
+            if is_text(text) {
+                Statement::Text(*text)
+            } else {
+                Statement::Malformed
+            }
+        }
         _ => Statement::Malformed,
     }
 }
@@ -100,80 +108,43 @@ pub(crate) fn align<'a>(operands: &[Operand<'a>]) -> Statement<'a>
     }
 }
 
-/// `.place`: an address.
-pub(crate) fn place<'a>(operands: &[Operand<'a>]) -> Statement<'a>
-    ensures statement { seen_statement result ≡ made_of meanings.DotPlace (fitting (meanings.slots_of meanings.DotPlace) (map seen_operand operands.now)) }
-    ensures proper { IsProper result }
-{
-    match operands {
-        [a] => match number(a) {
-            Fit::Wrong => Statement::Malformed,
-            Fit::Unknown => Statement::NameFor(HeaderField::PlaceField),
-            Fit::Fits(n) => {
-                if n < 0 {
-                    Statement::NegativeFor(HeaderField::PlaceField)
-                } else {
-                    Statement::Place(n as u64)
-                }
-            }
-        },
-        _ => Statement::Malformed,
-    }
-}
-
 /// `.entry`: a label.
 pub(crate) fn entry<'a>(operands: &[Operand<'a>]) -> Statement<'a>
     ensures statement { seen_statement result ≡ made_of meanings.DotEntry (fitting (meanings.slots_of meanings.DotEntry) (map seen_operand operands.now)) }
     ensures proper { IsProper result }
 {
     match operands {
-        [a] => match label(a) {
-            Fit::Wrong => Statement::Malformed,
-            Fit::Unknown => Statement::Unresolved,
-            Fit::Fits(label) => Statement::Entry(label),
-        },
+        [Operand::Name(label)] => Statement::Entry(*label),
         _ => Statement::Malformed,
     }
 }
 
-/// `.priority`: a number.
-pub(crate) fn priority<'a>(operands: &[Operand<'a>]) -> Statement<'a>
-    ensures statement { seen_statement result ≡ made_of meanings.DotPriority (fitting (meanings.slots_of meanings.DotPriority) (map seen_operand operands.now)) }
+/// A directive of the header: a number that isn't negative.
+pub(crate) fn header<'a>(field: HeaderField, operands: &[Operand<'a>]) -> Statement<'a>
+    ensures statement { seen_statement result ≡ made_of (directive_of field) (fitting (meanings.NumberSlot ∷ []) (map seen_operand operands.now)) }
     ensures proper { IsProper result }
 {
     match operands {
-        [a] => match number(a) {
-            Fit::Wrong => Statement::Malformed,
-            Fit::Unknown => Statement::NameFor(HeaderField::PriorityField),
-            Fit::Fits(n) => {
-                if n < 0 {
-                    Statement::NegativeFor(HeaderField::PriorityField)
-                } else {
-                    Statement::Priority(n as u64)
-                }
+        [Operand::Number(n)] => {
+            if *n < 0 {
+                Statement::NegativeFor(field)
+            } else {
+                set(field, *n as u64)
             }
-        },
+        }
+        [Operand::Name(_)] => Statement::NameFor(field),
         _ => Statement::Malformed,
     }
 }
 
-/// `.stack`: how many bytes.
-pub(crate) fn stack<'a>(operands: &[Operand<'a>]) -> Statement<'a>
-    ensures statement { seen_statement result ≡ made_of meanings.DotStack (fitting (meanings.slots_of meanings.DotStack) (map seen_operand operands.now)) }
+// The statement that sets a field of the header.
+fn set<'a>(field: HeaderField, number: u64) -> Statement<'a>
+    ensures statement { seen_statement result ≡ spec.setting field number }
     ensures proper { IsProper result }
 {
-    match operands {
-        [a] => match number(a) {
-            Fit::Wrong => Statement::Malformed,
-            Fit::Unknown => Statement::NameFor(HeaderField::StackField),
-            Fit::Fits(n) => {
-                if n < 0 {
-                    Statement::NegativeFor(HeaderField::StackField)
-                } else {
-                    Statement::Stack(n as u64)
-                }
-            }
-        },
-        _ => Statement::Malformed,
+    match field {
+        HeaderField::PlaceField => Statement::Place(number),
+        HeaderField::PriorityField => Statement::Priority(number),
+        HeaderField::StackField => Statement::Stack(number),
     }
 }

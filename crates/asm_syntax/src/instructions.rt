@@ -1,6 +1,6 @@
 //! The instructions of the table with their operands, a function a form.
 
-ghost use Rattle.std.specs.Prelude.{ℕ, ◌≡◌, ◌≤◌, ◌%◌, map, true, false, ◌==◌};
+ghost use Rattle.std.specs.Prelude.{ℕ, ◌≡◌, ◌<◌, ◌≤◌, ◌%◌, map, true, false, ◌==◌, pos, negsuc};
 ghost use Rattle.rv_isa.specs.Encoding.{fixed};
 ghost use Rattle.rv_isa.specs.Table.{form_of};
 ghost use Rattle.xinu_model.specs.Isa.Instructions.{FormU, FormJ, FormI, FormB, FormS, FormShift, FormR, FormFence, FormWhole};
@@ -8,13 +8,14 @@ ghost use Rattle.asm_syntax.specs.CodeOperands.{seen_operand};
 ghost use Rattle.asm_syntax.specs.CodeStatements.{seen_statement, IsProper};
 ghost use Rattle.asm_syntax.specs.Meanings.{Instruction, slots_of};
 ghost use Rattle.asm_syntax.specs.Meanings as meanings;
-ghost use Rattle.asm_syntax.specs.Statements.{made_of};
+ghost use Rattle.asm_syntax.specs.Statements.{made_of, one, within};
+ghost use Rattle.asm_syntax.specs.Statements as spec;
 ghost use Rattle.asm_syntax.specs.Values.{fitting};
 
 use crate::encoding::word_of;
 use crate::operands::Operand;
 use crate::statements::Statement;
-use crate::values::{Fit, label, number, offset, register};
+use crate::words::register_of;
 use rv_isa::{Form, Row, word_with};
 
 /// The statement of an instruction of the table.
@@ -49,17 +50,17 @@ fn upper<'a>(bits: u32, operands: &[Operand<'a>]) -> Statement<'a>
     ensures proper { IsProper result }
 {
     match operands {
-        [a, b] => match (register(a), number(b)) {
-            (Fit::Wrong, _) | (_, Fit::Wrong) => Statement::Malformed,
-            (Fit::Fits(rd), Fit::Fits(n)) => {
-                if 0 <= n && n <= 1_048_575 {
-                    Statement::One(word_with(bits, Form::U, rd, 0, 0, n as u32 * 4096))
+        [Operand::Name(a), Operand::Number(n)] => match register_of(a) {
+            Some(rd) => {
+                if 0 <= *n && *n <= 1_048_575 {
+                    Statement::One(word_with(bits, Form::U, rd, 0, 0, *n as u32 * 4096))
                 } else {
                     Statement::Excessive
                 }
             }
-            _ => Statement::Unresolved,
+            None => Statement::Unresolved,
         },
+        [Operand::Name(_), Operand::Name(_)] => Statement::Unresolved,
         _ => Statement::Malformed,
     }
 }
@@ -70,10 +71,9 @@ fn jump<'a>(operands: &[Operand<'a>]) -> Statement<'a>
     ensures proper { IsProper result }
 {
     match operands {
-        [a, b] => match (register(a), label(b)) {
-            (Fit::Wrong, _) | (_, Fit::Wrong) => Statement::Malformed,
-            (Fit::Fits(rd), Fit::Fits(label)) => Statement::JumpTo { rd, label },
-            _ => Statement::Unresolved,
+        [Operand::Name(a), Operand::Name(label)] => match register_of(a) {
+            Some(rd) => Statement::JumpTo { rd, label: *label },
+            None => Statement::Unresolved,
         },
         _ => Statement::Malformed,
     }
@@ -87,17 +87,13 @@ fn immediate<'a>(bits: u32, operands: &[Operand<'a>]) -> Statement<'a>
     ensures proper { IsProper result }
 {
     match operands {
-        [a, b, c] => match (register(a), register(b), number(c)) {
-            (Fit::Wrong, _, _) | (_, Fit::Wrong, _) | (_, _, Fit::Wrong) => Statement::Malformed,
-            (Fit::Fits(rd), Fit::Fits(rs1), Fit::Fits(n)) => {
-                if -2048 <= n && n <= 2047 {
-                    Statement::One(word_with(bits, Form::I, rd, rs1, 0, word_of(n)))
-                } else {
-                    Statement::Excessive
-                }
+        [Operand::Name(a), Operand::Name(b), Operand::Number(n)] => {
+            match (register_of(a), register_of(b)) {
+                (Some(rd), Some(rs1)) => with_number(bits, Form::I, rd, rs1, 0, *n),
+                _ => Statement::Unresolved,
             }
-            _ => Statement::Unresolved,
-        },
+        }
+        [Operand::Name(_), Operand::Name(_), Operand::Name(_)] => Statement::Unresolved,
         _ => Statement::Malformed,
     }
 }
@@ -110,17 +106,11 @@ fn load<'a>(bits: u32, operands: &[Operand<'a>]) -> Statement<'a>
     ensures proper { IsProper result }
 {
     match operands {
-        [a, b] => match (register(a), offset(b)) {
-            (Fit::Wrong, _) | (_, Fit::Wrong) => Statement::Malformed,
-            (Fit::Fits(rd), Fit::Fits((n, rs1))) => {
-                if -2048 <= n && n <= 2047 {
-                    Statement::One(word_with(bits, Form::I, rd, rs1, 0, word_of(n)))
-                } else {
-                    Statement::Excessive
-                }
-            }
+        [Operand::Name(a), Operand::Offset(n, b)] => match (register_of(a), register_of(b)) {
+            (Some(rd), Some(rs1)) => with_number(bits, Form::I, rd, rs1, 0, *n),
             _ => Statement::Unresolved,
         },
+        [Operand::Name(_), Operand::NamedOffset] => Statement::Unresolved,
         _ => Statement::Malformed,
     }
 }
@@ -132,16 +122,17 @@ fn branch<'a>(bits: u32, operands: &[Operand<'a>]) -> Statement<'a>
     ensures proper { IsProper result }
 {
     match operands {
-        [a, b, c] => match (register(a), register(b), label(c)) {
-            (Fit::Wrong, _, _) | (_, Fit::Wrong, _) | (_, _, Fit::Wrong) => Statement::Malformed,
-            (Fit::Fits(rs1), Fit::Fits(rs2), Fit::Fits(label)) => Statement::Branch {
-                bits,
-                rs1,
-                rs2,
-                label,
-            },
-            _ => Statement::Unresolved,
-        },
+        [Operand::Name(a), Operand::Name(b), Operand::Name(label)] => {
+            match (register_of(a), register_of(b)) {
+                (Some(rs1), Some(rs2)) => Statement::Branch {
+                    bits,
+                    rs1,
+                    rs2,
+                    label: *label,
+                },
+                _ => Statement::Unresolved,
+            }
+        }
         _ => Statement::Malformed,
     }
 }
@@ -153,18 +144,28 @@ fn store<'a>(bits: u32, operands: &[Operand<'a>]) -> Statement<'a>
     ensures proper { IsProper result }
 {
     match operands {
-        [a, b] => match (register(a), offset(b)) {
-            (Fit::Wrong, _) | (_, Fit::Wrong) => Statement::Malformed,
-            (Fit::Fits(rs2), Fit::Fits((n, rs1))) => {
-                if -2048 <= n && n <= 2047 {
-                    Statement::One(word_with(bits, Form::S, 0, rs1, rs2, word_of(n)))
-                } else {
-                    Statement::Excessive
-                }
-            }
+        [Operand::Name(a), Operand::Offset(n, b)] => match (register_of(a), register_of(b)) {
+            (Some(rs2), Some(rs1)) => with_number(bits, Form::S, 0, rs1, rs2, *n),
             _ => Statement::Unresolved,
         },
+        [Operand::Name(_), Operand::NamedOffset] => Statement::Unresolved,
         _ => Statement::Malformed,
+    }
+}
+
+// An instruction with a number of 12 bits.
+fn with_number<'a>(bits: u32, form: Form, rd: u8, rs1: u8, rs2: u8, number: i64) -> Statement<'a>
+    requires room { bits ≤ fixed (form_of form) }
+    requires first { rd < 32 }
+    requires second { rs1 < 32 }
+    requires third { rs2 < 32 }
+    ensures statement { seen_statement result ≡ within (negsuc 2047) number (pos 2047) (one bits (form_of form) rd rs1 rs2 (spec.word_of number)) }
+    ensures proper { IsProper result }
+{
+    if -2048 <= number && number <= 2047 {
+        Statement::One(word_with(bits, form, rd, rs1, rs2, word_of(number)))
+    } else {
+        Statement::Excessive
     }
 }
 
@@ -175,17 +176,19 @@ fn shift<'a>(bits: u32, operands: &[Operand<'a>]) -> Statement<'a>
     ensures proper { IsProper result }
 {
     match operands {
-        [a, b, c] => match (register(a), register(b), number(c)) {
-            (Fit::Wrong, _, _) | (_, Fit::Wrong, _) | (_, _, Fit::Wrong) => Statement::Malformed,
-            (Fit::Fits(rd), Fit::Fits(rs1), Fit::Fits(n)) => {
-                if 0 <= n && n <= 31 {
-                    Statement::One(word_with(bits, Form::Shift, rd, rs1, 0, word_of(n)))
-                } else {
-                    Statement::Excessive
+        [Operand::Name(a), Operand::Name(b), Operand::Number(n)] => {
+            match (register_of(a), register_of(b)) {
+                (Some(rd), Some(rs1)) => {
+                    if 0 <= *n && *n <= 31 {
+                        Statement::One(word_with(bits, Form::Shift, rd, rs1, 0, word_of(*n)))
+                    } else {
+                        Statement::Excessive
+                    }
                 }
+                _ => Statement::Unresolved,
             }
-            _ => Statement::Unresolved,
-        },
+        }
+        [Operand::Name(_), Operand::Name(_), Operand::Name(_)] => Statement::Unresolved,
         _ => Statement::Malformed,
     }
 }
@@ -197,13 +200,14 @@ fn registers<'a>(bits: u32, operands: &[Operand<'a>]) -> Statement<'a>
     ensures proper { IsProper result }
 {
     match operands {
-        [a, b, c] => match (register(a), register(b), register(c)) {
-            (Fit::Wrong, _, _) | (_, Fit::Wrong, _) | (_, _, Fit::Wrong) => Statement::Malformed,
-            (Fit::Fits(rd), Fit::Fits(rs1), Fit::Fits(rs2)) => {
-                Statement::One(word_with(bits, Form::R, rd, rs1, rs2, 0))
+        [Operand::Name(a), Operand::Name(b), Operand::Name(c)] => {
+            match (register_of(a), register_of(b), register_of(c)) {
+                (Some(rd), Some(rs1), Some(rs2)) => {
+                    Statement::One(word_with(bits, Form::R, rd, rs1, rs2, 0))
+                }
+                _ => Statement::Unresolved,
             }
-            _ => Statement::Unresolved,
-        },
+        }
         _ => Statement::Malformed,
     }
 }

@@ -26,7 +26,6 @@ mod shorthands;
 mod statements;
 mod texts;
 mod tokens;
-mod values;
 mod words;
 
 pub use encoding::{load, word_of};

@@ -14,12 +14,12 @@ ghost use Rattle.asm_syntax.specs.Tokens as tokens;
 ghost use Rattle.asm_syntax.specs.Tokens.{tokens_of, solid};
 ghost use Rattle.asm_syntax.specs.Values.{fitting};
 
-use crate::directives::{align, ascii, byte, entry, place, priority, stack, word, zeros};
+use crate::directives::{align, ascii, byte, entry, header, word, zeros};
 use crate::instructions::instruction;
 use crate::meanings::{Meaning, meaning_of};
 use crate::operands::{Operand, operands_in};
 use crate::shorthands::{copy, give_back, jump, load_address, load_number, nothing, system_call};
-use crate::statements::Statement;
+use crate::statements::{HeaderField, Statement};
 use crate::tokens::{Token, next_token};
 use crate::words::is_name;
 
@@ -148,10 +148,10 @@ fn made<'a>(meaning: Meaning, operands: &[Operand<'a>]) -> Statement<'a>
         Meaning::DotZero => zeros(operands),
         Meaning::DotAscii => ascii(operands),
         Meaning::DotAlign => align(operands),
-        Meaning::DotPlace => place(operands),
+        Meaning::DotPlace => header(HeaderField::PlaceField, operands),
         Meaning::DotEntry => entry(operands),
-        Meaning::DotPriority => priority(operands),
-        Meaning::DotStack => stack(operands),
+        Meaning::DotPriority => header(HeaderField::PriorityField, operands),
+        Meaning::DotStack => header(HeaderField::StackField, operands),
     }
 }
 

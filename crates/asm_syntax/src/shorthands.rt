@@ -7,10 +7,11 @@ ghost use Rattle.asm_syntax.specs.Meanings as meanings;
 ghost use Rattle.asm_syntax.specs.Statements.{made_of};
 ghost use Rattle.asm_syntax.specs.Values.{fitting};
 
+use crate::calls::call_of;
 use crate::encoding::{load, word_of};
 use crate::operands::Operand;
 use crate::statements::Statement;
-use crate::values::{Fit, call, label, number, register};
+use crate::words::register_of;
 use rv_isa::{Form, word_with};
 
 /// `li`: a register and a number.
@@ -19,18 +20,18 @@ pub(crate) fn load_number<'a>(operands: &[Operand<'a>]) -> Statement<'a>
     ensures proper { IsProper result }
 {
     match operands {
-        [a, b] => match (register(a), number(b)) {
-            (Fit::Wrong, _) | (_, Fit::Wrong) => Statement::Malformed,
-            (Fit::Fits(rd), Fit::Fits(n)) => {
-                if -2_147_483_648 <= n && n <= 4_294_967_295 {
-                    let (upper, lower) = load(rd, word_of(n));
+        [Operand::Name(a), Operand::Number(n)] => match register_of(a) {
+            Some(rd) => {
+                if -2_147_483_648 <= *n && *n <= 4_294_967_295 {
+                    let (upper, lower) = load(rd, word_of(*n));
                     Statement::Two(upper, lower)
                 } else {
                     Statement::Excessive
                 }
             }
-            _ => Statement::Unresolved,
+            None => Statement::Unresolved,
         },
+        [Operand::Name(_), Operand::Name(_)] => Statement::Unresolved,
         _ => Statement::Malformed,
     }
 }
@@ -41,10 +42,9 @@ pub(crate) fn load_address<'a>(operands: &[Operand<'a>]) -> Statement<'a>
     ensures proper { IsProper result }
 {
     match operands {
-        [a, b] => match (register(a), label(b)) {
-            (Fit::Wrong, _) | (_, Fit::Wrong) => Statement::Malformed,
-            (Fit::Fits(rd), Fit::Fits(label)) => Statement::AddressOf { rd, label },
-            _ => Statement::Unresolved,
+        [Operand::Name(a), Operand::Name(label)] => match register_of(a) {
+            Some(rd) => Statement::AddressOf { rd, label: *label },
+            None => Statement::Unresolved,
         },
         _ => Statement::Malformed,
     }
@@ -56,11 +56,8 @@ pub(crate) fn copy<'a>(operands: &[Operand<'a>]) -> Statement<'a>
     ensures proper { IsProper result }
 {
     match operands {
-        [a, b] => match (register(a), register(b)) {
-            (Fit::Wrong, _) | (_, Fit::Wrong) => Statement::Malformed,
-            (Fit::Fits(rd), Fit::Fits(rs)) => {
-                Statement::One(word_with(0x13, Form::I, rd, rs, 0, 0))
-            }
+        [Operand::Name(a), Operand::Name(b)] => match (register_of(a), register_of(b)) {
+            (Some(rd), Some(rs)) => Statement::One(word_with(0x13, Form::I, rd, rs, 0, 0)),
             _ => Statement::Unresolved,
         },
         _ => Statement::Malformed,
@@ -85,10 +82,9 @@ pub(crate) fn jump<'a>(operands: &[Operand<'a>]) -> Statement<'a>
     ensures proper { IsProper result }
 {
     match operands {
-        [a] => match label(a) {
-            Fit::Wrong => Statement::Malformed,
-            Fit::Unknown => Statement::Unresolved,
-            Fit::Fits(label) => Statement::JumpTo { rd: 0, label },
+        [Operand::Name(label)] => Statement::JumpTo {
+            rd: 0,
+            label: *label,
         },
         _ => Statement::Malformed,
     }
@@ -112,10 +108,9 @@ pub(crate) fn system_call<'a>(operands: &[Operand<'a>]) -> Statement<'a>
     ensures proper { IsProper result }
 {
     match operands {
-        [a] => match call(a) {
-            Fit::Wrong => Statement::Malformed,
-            Fit::Unknown => Statement::Unresolved,
-            Fit::Fits(n) => Statement::Two(word_with(0x13, Form::I, 17, 0, 0, n), 0x73),
+        [Operand::Name(name)] => match call_of(name) {
+            Some(n) => Statement::Two(word_with(0x13, Form::I, 17, 0, 0, n), 0x73),
+            None => Statement::Unresolved,
         },
         _ => Statement::Malformed,
     }

@@ -2,9 +2,8 @@
 
 ghost use Rattle.std.specs.Prelude.{◌≡◌, ◌<◌, ◌++◌, [], ◌∷◌, true, is_some, replicate, OnOk};
 ghost use Rattle.asm_syntax.specs.CodeStatements.{seen_statement, IsProper};
-ghost use Rattle.asm_syntax.specs.CodeValues.{bytes_of};
 ghost use Rattle.asm_syntax.specs.Statements.{word_bytes};
-ghost use Rattle.asm_syntax.specs.Texts.{text_bytes};
+ghost use Rattle.asm_syntax.specs.Texts.{bytes_of, text_bytes};
 ghost use Rattle.rv_asm.specs.Assembly as spec;
 ghost use Rattle.rv_asm.specs.CodeLabels.{found};
 

@@ -2,8 +2,7 @@
 
 ghost use Rattle.std.specs.Prelude.{◌≡◌, ◌+◌, ◌≤◌, length, true, is_some};
 ghost use Rattle.asm_syntax.specs.CodeStatements.{seen_statement, IsProper};
-ghost use Rattle.asm_syntax.specs.CodeValues.{bytes_of};
-ghost use Rattle.asm_syntax.specs.Texts.{text_bytes};
+ghost use Rattle.asm_syntax.specs.Texts.{bytes_of, text_bytes};
 ghost use Rattle.rv_asm.specs.Layouts as spec;
 
 use asm_syntax::{Statement, next_byte};

@@ -1,7 +1,6 @@
 -- Each step appends one byte.
 use Rattle.std.proofs.Common.{◌++◌}
-use Rattle.asm_syntax.specs.CodeValues.{bytes_of}
-use Rattle.asm_syntax.specs.Texts.{text_bytes}
+use Rattle.asm_syntax.specs.Texts.{bytes_of, text_bytes}
 use Rattle.rv_asm.proofs.TextLemmas.{rest_is_text, text-cons, one-appended}
 use Rattle.rv_asm.proofs.bytes.push_text.Goals as goal
 

@@ -1,8 +1,7 @@
 -- The bytes so far and those that are left.
 use Rattle.std.proofs.Common.{◌≡◌, ◌+◌, ◌≤◌, true, length}
 use Rattle.std.specs.Prelude.{is_some}
-use Rattle.asm_syntax.specs.CodeValues.{bytes_of}
-use Rattle.asm_syntax.specs.Texts.{text_bytes}
+use Rattle.asm_syntax.specs.Texts.{bytes_of, text_bytes}
 use Rattle.rv_asm.proofs.sizes.text_size.Given as goal
 
 abbrev pub invariant-loop-rest : goal.invariant-loop-rest
