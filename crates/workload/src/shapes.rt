@@ -1,6 +1,7 @@
 //! The shapes of the groups: each is a call with its arguments.
 
 ghost use Rattle.std.specs.Prelude.{◌≡◌, ◌≤◌, ◌<◌, length};
+ghost use Rattle.xinu_base.specs.Syscalls.{CALLS};
 ghost use Rattle.workload.specs.Groups.{shape_at};
 ghost use Rattle.workload.specs.Shapes.{seen};
 
@@ -28,7 +29,7 @@ pub(crate) struct Shape {
 pub(crate) fn shape_at(number: u32) -> Shape
     requires few { number < 16 }
     ensures shape { seen result ≡ shape_at number }
-    ensures call { result.call ≤ 44 }
+    ensures call { result.call ≤ CALLS }
     ensures args { length result.args.now ≤ 3 }
 {
     match number {
