@@ -1,6 +1,6 @@
 //! The clock: who sleeps, and what a tick does (book, chapter 13).
 
-ghost use Rattle.std.specs.Prelude.{◌≡◌, ◌≤◌, ◌<◌, IfOk};
+ghost use Rattle.std.specs.Prelude.{◌≡◌, ◌≤◌, ◌<◌, IfOk, is_ok, true};
 ghost use Rattle.reference_state.specs.Answers.{came_to, IsStart};
 ghost use Rattle.reference_state.specs.Happened.{happened};
 ghost use Rattle.xinu_model.specs.Clock as model;
@@ -14,12 +14,13 @@ use xinu_base::{NoMemory, Rest, SYSERR, State};
 const MOST_SECONDS: i32 = 2147483;
 
 /// Call 6: the caller lets the others run.
-pub fn yield_now(m: &mut Machine) -> Answer
+pub fn yield_now(m: &mut Machine) -> Result<Answer, NoMemory>
     requires start { IsStart m.old }
-    ensures yields { came_to m.new result ≡ model.yield m.old.state }
+    ensures yields { IfOk result (λ a. came_to m.new a ≡ model.yield m.old.state) }
+    ensures answers { is_ok result ≡ true }
 {
     m.owe_resched();
-    Answer::Returns(0)
+    Ok(Answer::Returns(0))
 }
 
 /// Call 26: the caller sleeps n ticks, for 0 it yields. Refused if n is negative.
@@ -32,7 +33,7 @@ pub fn sleepms(m: &mut Machine, n: i32) -> Result<Answer, NoMemory>
         return Ok(Answer::Returns(SYSERR));
     }
     if n == 0 {
-        return Ok(yield_now(m));
+        return yield_now(m);
     }
     let wake = m.ticks() + n as u32;
     m.blocked(State::Sleeping, Rest::Nothing, Place::InSleepers(wake))
@@ -51,11 +52,12 @@ pub fn sleep(m: &mut Machine, n: i32) -> Result<Answer, NoMemory>
 }
 
 /// Call 27: the seconds since the start.
-pub fn clktime(m: &Machine) -> Answer
+pub fn clktime(m: &Machine) -> Result<Answer, NoMemory>
     requires start { IsStart m.now }
-    ensures clktime { came_to m.now result ≡ model.clktime m.now.state }
+    ensures clktime { IfOk result (λ a. came_to m.now a ≡ model.clktime m.now.state) }
+    ensures answers { is_ok result ≡ true }
 {
-    Answer::Returns((m.ticks() / 1000) as i32)
+    Ok(Answer::Returns((m.ticks() / 1000) as i32))
 }
 
 /// A tick of the clock: those whose tick has come are released, with a resched if there were any; then the quantum falls.

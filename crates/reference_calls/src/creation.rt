@@ -16,6 +16,19 @@ use reference_tables::Place;
 use rv_hart::Hart;
 use xinu_base::{INITRET, MINSTK, NoMemory, Pid, Process, Rest, SYSERR, State, before_zero};
 
+/// What a new process is to be.
+#[derive(Clone, Copy)]
+pub struct Creation {
+    /// The address of the first instruction.
+    pub entry: u32,
+    /// The bytes of the stack that are asked for.
+    pub stack: u32,
+    /// The priority.
+    pub priority: i16,
+    /// What is in registers a0 and a1 at the start.
+    pub args: (u32, u32),
+}
+
 /// How a process begins: the address of its first instruction, and what is in registers a0 and a1.
 #[derive(Clone, Copy)]
 pub struct Entry {
@@ -27,21 +40,14 @@ pub struct Entry {
     pub y: u32,
 }
 
-/// Call 2: a new process with this entry, stack and priority, named by the text at an address; it begins with x and y in a0 and a1. Refused
-/// if the priority is below 1, the name doesn't lie in RAM, no number is free or the heap has no such stack.
-pub fn create(
-    m: &mut Machine,
-    entry: u32,
-    size: u32,
-    priority: i16,
-    name: u32,
-    x: u32,
-    y: u32,
-) -> Result<Answer, NoMemory>
+/// Call 2: a new process, named by the text at an address; its number. Refused if the priority is below 1, the name doesn't lie in RAM, no
+/// number is free or the heap has no such stack.
+pub fn create(m: &mut Machine, new: Creation, name: u32) -> Result<Answer, NoMemory>
     requires start { IsStart m.old }
-    ensures create { IfOk result (λ a. came_to m.new a ≡ model.create entry size priority name x y m.old.state) }
+    ensures create { IfOk result (λ a. came_to m.new a ≡
+        model.create new.entry new.stack new.priority name new.args.0 new.args.1 m.old.state) }
 {
-    if priority < 1 {
+    if new.priority < 1 {
         return Ok(Answer::Returns(SYSERR));
     }
     let Some(name) = name_at(m, name) else {
@@ -50,27 +56,25 @@ pub fn create(
     let Some(p) = next_process(m) else {
         return Ok(Answer::Returns(SYSERR));
     };
-    created(m, p, size, priority, name, Entry { pc: entry, x, y })
+    created(m, p, new, name)
 }
 
 // A process of this number is created on a stack of the heap; its number. Refused if there is no such stack.
-fn created(
-    m: &mut Machine,
-    p: Pid,
-    size: u32,
-    priority: i16,
-    name: [u8; 15],
-    entry: Entry,
-) -> Result<Answer, NoMemory>
+fn created(m: &mut Machine, p: Pid, new: Creation, name: [u8; 15]) -> Result<Answer, NoMemory>
     requires start { IsStart m.old }
     ensures created { IfOk result (λ a. came_to m.new a ≡
-        model.created (Some p) (take_stack (creation.stack_size size) m.old.state.parts.heap) entry.pc (creation.stack_size size) priority
-        name entry.x entry.y m.old.state) }
+        model.created (Some p) (take_stack (creation.stack_size new.stack) m.old.state.parts.heap) new.entry (creation.stack_size new.stack)
+        new.priority name new.args.0 new.args.1 m.old.state) }
 {
-    let Some(top) = stack_taken(m, size.max(MINSTK)) else {
+    let Some(top) = stack_taken(m, new.stack.max(MINSTK)) else {
         return Ok(Answer::Returns(SYSERR));
     };
-    let x = new_process(name, priority, m.current(), top, stack_size(size));
+    let x = new_process(name, new.priority, m.current(), top, stack_size(new.stack));
+    let entry = Entry {
+        pc: new.entry,
+        x: new.args.0,
+        y: new.args.1,
+    };
     make_process(m, p, x, new_hart(entry, top))?;
     Ok(Answer::Returns(p.index() as i32))
 }

@@ -1,6 +1,6 @@
 //! The calls on the heap (book, chapter 9).
 
-ghost use Rattle.std.specs.Prelude.{◌≡◌, ◌*◌, ◌≤◌, IfSome, IfNone, Some, None, if◌then◌else◌, unwrap_or};
+ghost use Rattle.std.specs.Prelude.{◌≡◌, ◌*◌, ◌≤◌, IfOk, IfSome, IfNone, Some, None, if◌then◌else◌, is_ok, true, unwrap_or};
 ghost use Rattle.reference_calls.specs.Heaps.{with_heap};
 ghost use Rattle.reference_state.specs.Answers.{came_to, IsStart};
 ghost use Rattle.xinu_model.specs.Heap.Calls as model;
@@ -8,51 +8,55 @@ ghost use Rattle.xinu_model.specs.Heap.Cells as cells;
 
 use crate::heap::{free_memory, free_stack, take_memory, take_stack};
 use reference_state::{Answer, Machine};
-use xinu_base::SYSERR;
+use xinu_base::{NoMemory, SYSERR};
 
 /// Call 10: n bytes of the lowest free cells; their address. Refused if n is 0 or no such cells are free.
-pub fn getmem(m: &mut Machine, n: u32) -> Answer
+pub fn getmem(m: &mut Machine, n: u32) -> Result<Answer, NoMemory>
     requires start { IsStart m.old }
-    ensures getmem { came_to m.new result ≡ model.getmem n m.old.state }
+    ensures getmem { IfOk result (λ r. came_to m.new r ≡ model.getmem n m.old.state) }
+    ensures answers { is_ok result ≡ true }
 {
     match memory_taken(m, n) {
-        None => Answer::Returns(SYSERR),
-        Some(address) => Answer::Returns(address as i32),
+        None => Ok(Answer::Returns(SYSERR)),
+        Some(address) => Ok(Answer::Returns(address as i32)),
     }
 }
 
 /// Call 11: n bytes from an address on are given back. Refused if they aren't whole cells of the heap that are taken.
-pub fn freemem(m: &mut Machine, a: u32, n: u32) -> Answer
+pub fn freemem(m: &mut Machine, a: u32, n: u32) -> Result<Answer, NoMemory>
     requires start { IsStart m.old }
-    ensures freemem { came_to m.new result ≡ model.freemem a n m.old.state }
+    ensures freemem { IfOk result (λ r. came_to m.new r ≡ model.freemem a n m.old.state) }
+    ensures answers { is_ok result ≡ true }
 {
     if memory_freed(m, a, n) {
-        Answer::Returns(0)
+        Ok(Answer::Returns(0))
     } else {
-        Answer::Returns(SYSERR)
+        Ok(Answer::Returns(SYSERR))
     }
 }
 
 /// Call 12: a stack of n bytes of the highest free cells; the address of its highest word. Refused as call 10.
-pub fn getstk(m: &mut Machine, n: u32) -> Answer
+pub fn getstk(m: &mut Machine, n: u32) -> Result<Answer, NoMemory>
     requires start { IsStart m.old }
-    ensures getstk { came_to m.new result ≡ model.getstk n m.old.state }
+    ensures getstk { IfOk result (λ r. came_to m.new r ≡ model.getstk n m.old.state) }
+    ensures answers { is_ok result ≡ true }
 {
     match stack_taken(m, n) {
-        None => Answer::Returns(SYSERR),
-        Some(top) => Answer::Returns(top as i32),
+        None => Ok(Answer::Returns(SYSERR)),
+        Some(top) => Ok(Answer::Returns(top as i32)),
     }
 }
 
 /// Call 13: a stack of n bytes whose highest word is at an address is given back. Refused as call 11.
-pub fn freestk(m: &mut Machine, a: u32, n: u32) -> Answer
+pub fn freestk(m: &mut Machine, a: u32, n: u32) -> Result<Answer, NoMemory>
     requires start { IsStart m.old }
-    ensures freestk { came_to m.new result ≡ model.freestk a n m.old.state }
+    ensures freestk { IfOk result (λ r. came_to m.new r ≡ model.freestk a n m.old.state) }
+    ensures answers { is_ok result ≡ true }
 {
     if stack_freed(m, a, n) {
-        Answer::Returns(0)
+        Ok(Answer::Returns(0))
     } else {
-        Answer::Returns(SYSERR)
+        Ok(Answer::Returns(SYSERR))
     }
 }
 

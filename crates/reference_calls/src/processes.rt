@@ -1,6 +1,6 @@
 //! Processes: how they are resumed, suspended and given priorities (book, chapters 5 and 6).
 
-ghost use Rattle.std.specs.Prelude.{◌≡◌, IfOk};
+ghost use Rattle.std.specs.Prelude.{◌≡◌, IfOk, is_ok, true};
 ghost use Rattle.reference_state.specs.Answers.{came_to, IsStart};
 ghost use Rattle.xinu_model.specs.Machine as machine;
 ghost use Rattle.xinu_model.specs.Process.Calls as model;
@@ -10,11 +10,12 @@ use reference_tables::{Place, Tables, in_state};
 use xinu_base::{NoMemory, Pid, Process, Rest, SYSERR, State};
 
 /// Call 1: the number of the caller.
-pub fn getpid(m: &Machine) -> Answer
+pub fn getpid(m: &Machine) -> Result<Answer, NoMemory>
     requires start { IsStart m.now }
-    ensures getpid { came_to m.now result ≡ model.getpid m.now.state }
+    ensures getpid { IfOk result (λ a. came_to m.now a ≡ model.getpid m.now.state) }
+    ensures answers { is_ok result ≡ true }
 {
-    Answer::Returns(m.current().index() as i32)
+    Ok(Answer::Returns(m.current().index() as i32))
 }
 
 /// Call 3: the process of a word becomes ready; its priority. Refused if it isn't suspended.
@@ -77,13 +78,14 @@ pub fn chprio(m: &mut Machine, word: u32, priority: i16) -> Result<Answer, NoMem
 }
 
 /// Call 8: the priority of the process of a word. Refused if there is no such process.
-pub fn getprio(m: &Machine, word: u32) -> Answer
+pub fn getprio(m: &Machine, word: u32) -> Result<Answer, NoMemory>
     requires start { IsStart m.now }
-    ensures getprio { came_to m.now result ≡ model.getprio word m.now.state }
+    ensures getprio { IfOk result (λ a. came_to m.now a ≡ model.getprio word m.now.state) }
+    ensures answers { is_ok result ≡ true }
 {
     match m.living(word) {
-        None => Answer::Returns(SYSERR),
-        Some(p) => Answer::Returns(i32::from(m.process_at(p).priority)),
+        None => Ok(Answer::Returns(SYSERR)),
+        Some(p) => Ok(Answer::Returns(i32::from(m.process_at(p).priority))),
     }
 }
 

@@ -1,6 +1,6 @@
 //! Semaphores: tokens, and the processes that wait for one (book, chapter 7).
 
-ghost use Rattle.std.specs.Prelude.{◌≡◌, ◌≤◌, ◌+ℤ◌, IfOk, int_lt, length, pos};
+ghost use Rattle.std.specs.Prelude.{◌≡◌, ◌≤◌, ◌+ℤ◌, IfOk, int_lt, is_ok, length, pos, true};
 ghost use Rattle.reference_state.specs.Answers.{came_to, IsStart};
 ghost use Rattle.xinu_model.specs.Machine.{with_tables};
 ghost use Rattle.xinu_model.specs.Semaphores.Calls as model;
@@ -14,18 +14,19 @@ use xinu_base::{NoMemory, Owner, Rest, SYSERR, Sem};
 const MOST_TOKENS: i64 = 2147483647;
 
 /// Call 14: a new semaphore with this count. Refused if that is negative or no number is free.
-pub fn semcreate(m: &mut Machine, n: i32) -> Answer
+pub fn semcreate(m: &mut Machine, n: i32) -> Result<Answer, NoMemory>
     requires start { IsStart m.old }
-    ensures semcreate { came_to m.new result ≡ model.semcreate n m.old.state }
+    ensures semcreate { IfOk result (λ a. came_to m.new a ≡ model.semcreate n m.old.state) }
+    ensures answers { is_ok result ≡ true }
 {
     if n < 0 {
-        return Answer::Returns(SYSERR);
+        return Ok(Answer::Returns(SYSERR));
     }
     match m.free_semaphore() {
-        None => Answer::Returns(SYSERR),
+        None => Ok(Answer::Returns(SYSERR)),
         Some(sem) => {
             make(m, sem, n as u32);
-            Answer::Returns(sem.index() as i32)
+            Ok(Answer::Returns(sem.index() as i32))
         }
     }
 }
@@ -57,15 +58,16 @@ pub fn semreset(m: &mut Machine, sem: u32, n: i32) -> Result<Answer, NoMemory>
 }
 
 /// Call 17: the count. Refused if the semaphore isn't a process's. At most 64 processes wait on it.
-pub fn semcount(m: &Machine, sem: u32) -> Answer
+pub fn semcount(m: &Machine, sem: u32) -> Result<Answer, NoMemory>
     requires start { IsStart m.now }
     requires few { length (semaphore_at m.now.state.tables sem).waiters ≤ 64 }
-    ensures semcount { came_to m.now result ≡ model.semcount sem m.now.state }
+    ensures semcount { IfOk result (λ a. came_to m.now a ≡ model.semcount sem m.now.state) }
+    ensures answers { is_ok result ≡ true }
 {
     if !m.is_good(sem) {
-        return Answer::Returns(SYSERR);
+        return Ok(Answer::Returns(SYSERR));
     }
-    Answer::Returns(m.count_of(sem) as i32)
+    Ok(Answer::Returns(m.count_of(sem) as i32))
 }
 
 /// Call 18: the caller takes a token, or waits for one. Refused if the semaphore isn't a process's.

@@ -1,7 +1,9 @@
 -- Which calls make a call on files: none but those on devices, and those only as they ask for it.
-use Rattle.std.proofs.Common.{◌≡◌, ◌∙◌, ◌⊎◌, ◌<◌, ℕ, List, refl, arith}
+use Rattle.std.proofs.Common.{◌≡◌, ◌≢◌, ◌∙◌, ℕ, List, Some, refl}
 use Rattle.reference_check.specs.Leaving.{NoneMade}
+use Rattle.xinu_base.specs.Syscalls.{family_of}
 use Rattle.xinu_base.specs.declared.processes.Rest.{Rest}
+use Rattle.xinu_base.specs.declared.syscalls.Family.TheVariants.{Devices}
 use Rattle.xinu_laws.proofs.FileSyscalls.Chosen.{exit_none, kill_none, touched_files, none_if_same}
 use Rattle.xinu_laws.proofs.Rows.RowByRow.{◌⨾◌}
 use Rattle.xinu_laws.proofs.Touches.Continued.{continued_touches}
@@ -10,11 +12,11 @@ use Rattle.xinu_model.specs.Calls.{calls, called, continued}
 use Rattle.xinu_model.specs.Machine.{Xinu}
 use Rattle.xinu_model.specs.Sound.State.{IsSound}
 
--- whether a number is that of no call on devices that may ask for files
-abbrev IsPlain : ℕ → Type 0
-IsPlain number = (number < 36) ⊎ (43 < number)
+-- whether the number is that of no call on devices
+abbrev pub IsPlain : ℕ → Type 0
+IsPlain number = family_of number ≢ Some Devices
 
--- Calls 36 to 43 aside, no call makes one.
+-- No call but those on devices makes one.
 none_law : IsLawOfFew (λ f. f.files) (λ number s u. IsPlain number → NoneMade s u)
 unfolding calls
 none_law = record {
@@ -23,19 +25,18 @@ none_law = record {
   few =
       (λ a s k plain. kill_none (a 0) s) ⨾
       (λ a s k plain. exit_none s) ⨾
-      (λ a s k plain. absurd (omega (arith, plain))) ⨾
-      (λ a s k plain. absurd (omega (arith, plain))) ⨾
-      (λ a s k plain. absurd (omega (arith, plain))) ⨾
-      (λ a s k plain. absurd (omega (arith, plain))) ⨾
-      (λ a s k plain. absurd (omega (arith, plain))) ⨾
-      (λ a s k plain. absurd (omega (arith, plain))) ⨾
-      (λ a s k plain. absurd (omega (arith, plain))) ⨾
-      (λ a s k plain. absurd (omega (arith, plain))) ⨾
+      (λ a s k plain. absurd (plain refl)) ⨾
+      (λ a s k plain. absurd (plain refl)) ⨾
+      (λ a s k plain. absurd (plain refl)) ⨾
+      (λ a s k plain. absurd (plain refl)) ⨾
+      (λ a s k plain. absurd (plain refl)) ⨾
+      (λ a s k plain. absurd (plain refl)) ⨾
+      (λ a s k plain. absurd (plain refl)) ⨾
+      (λ a s k plain. absurd (plain refl)) ⨾
       tt;
 }
 
-pub plain_none : (number : ℕ) (args : List ℕ) (s : Xinu) → IsSound s → (number < 36) ⊎ (43 < number)
-    → NoneMade s (called number args s).call.state
+pub plain_none : (number : ℕ) (args : List ℕ) (s : Xinu) → IsSound s → IsPlain number → NoneMade s (called number args s).call.state
 plain_none number args s k plain = law_of_few none_law number args s k plain
 
 -- What is left of a call makes none.

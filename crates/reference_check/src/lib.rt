@@ -18,7 +18,7 @@
 //! | `reading` | bytes and lines are taken off the front of a text |
 //! | `events` | an event of any kind, along a text, and the lines of the tables |
 //! | `steps` | a machine step: an instruction, or what is left of a call |
-//! | `calls` | the 44 calls by their numbers, and what is left of those that waited |
+//! | `calls` | the calls by their families, and what is left of those that waited |
 //! | `file_calls`, `file_notes` | calls on files inside an event: how they are made, and how they take effect |
 //! | `machines` | the calls on files that are under way, and whether no process but the null process is left |
 //!

@@ -6,18 +6,20 @@
 //! | File | What it has |
 //! |---|---|
 //! | `buffers` | which addresses are buffers of a pool, and which pool has one |
-//! | [`new_pools`] | 28 `mkbufpool` |
-//! | [`pools`] | 29 `getbuf`, 30 `freebuf`, and [`pools::go_on_getbuf`] |
+//! | [`new_pools`] | `mkbufpool` |
+//! | [`pools`] | `getbuf`, `freebuf`, and [`pools::go_on_getbuf`] |
 //! | `queues` | the queue of a port: its messages, how many all ports hold, and whether a ticket is stale |
 //! | `port_changes` | what changes the ports: one is made, deleted, emptied, or has other messages |
-//! | [`ports`] | 31 `ptcreate` to 35 `ptrecv`, [`ports::go_on_ptsend`] and [`ports::go_on_ptrecv`] |
+//! | [`ports`] | `ptcreate`, `ptdelete`, `ptreset`, `ptsend`, `ptrecv`, [`ports::go_on_ptsend`] and [`ports::go_on_ptrecv`] |
+//! | [`dispatch`] | these by their numbers |
 //!
 //! Each call begins as an event does (`start`: `IsStart`). What else a call needs holds in each run: the tables, the pools or the ports are
 //! sound as the laws on the abstract machine say (`sound`, `pools`, `ports`), and no port has the greatest number (`numbers`), as a port is
-//! renewed at most once in an event. Out of memory is the only refusal by the code.
+//! renewed at most once in an event. Out of memory is the only refusal by the code; `ptcreate` takes none and always answers (`answers`).
 #![tactic(auto)]
 
 mod buffers;
+pub mod dispatch;
 pub mod new_pools;
 pub mod pools;
 mod port_changes;

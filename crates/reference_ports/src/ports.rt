@@ -1,6 +1,6 @@
 //! Ports: queues of messages with a bound on how many wait in each (book, chapter 11).
 
-ghost use Rattle.std.specs.Prelude.{ℕ, ◌≡◌, ◌<◌, ◌≤◌, ◌+◌, IfOk, Some, length};
+ghost use Rattle.std.specs.Prelude.{ℕ, ◌≡◌, ◌<◌, ◌≤◌, ◌+◌, IfOk, Some, is_ok, length, true};
 ghost use Rattle.reference_ports.specs.Heads.{queue_with};
 ghost use Rattle.reference_ports.specs.PortRoom.{HaveRoom};
 ghost use Rattle.reference_state.specs.Answers.{came_to, IsStart};
@@ -21,16 +21,17 @@ use reference_state::{Answer, Machine};
 use xinu_base::{NoMemory, Port, PortTicket, Rest, SYSERR};
 
 /// Call 31: a port that holds n messages; its number. Refused if n is negative, or no port or no two semaphores are free.
-pub fn ptcreate(m: &mut Machine, n: i32) -> Answer
+pub fn ptcreate(m: &mut Machine, n: i32) -> Result<Answer, NoMemory>
     requires start { IsStart m.old }
     requires sound { IsSoundTables m.old.state.tables }
     requires numbers { (q : ℕ) → (port_at m.old.state.parts.ports q).seq < 4294967295 }
-    ensures ptcreate { came_to m.new result ≡ model.ptcreate n m.old.state }
+    ensures ptcreate { IfOk result (λ a. came_to m.new a ≡ model.ptcreate n m.old.state) }
+    ensures answers { is_ok result ≡ true }
 {
     if n < 0 {
-        return Answer::Returns(SYSERR);
+        return Ok(Answer::Returns(SYSERR));
     }
-    create_port(m, n as u32)
+    Ok(create_port(m, n as u32))
 }
 
 // A port that holds n messages, if a number and two semaphores are found; the second is sought after the first, which is taken back if

@@ -1,7 +1,7 @@
 //! The calls on devices: each goes to the device that its first argument names, if that offers it (book, chapter 14). Calls on the file
 //! system and on files are judged by their arguments here, and by the files as they take effect.
 
-ghost use Rattle.std.specs.Prelude.{◌≡◌, IfOk, option_map};
+ghost use Rattle.std.specs.Prelude.{◌≡◌, ◌%◌, IfOk, is_ok, option_map, true};
 ghost use Rattle.reference_state.specs.Answers.{IsStart};
 ghost use Rattle.reference_state.specs.FileCalls.{file_call_of};
 ghost use Rattle.reference_switch.specs.Outcomes.{comes_to, LeavesFiles};
@@ -11,6 +11,7 @@ ghost use Rattle.xinu_model.specs.Machine.{refused};
 ghost use Rattle.xinu_model.specs.Names.Calls.{names_of};
 ghost use Rattle.xinu_model.specs.Names.Mapping.{map_name};
 ghost use Rattle.xinu_model.specs.Sound.State.{IsSound};
+ghost use Rattle.xinu_model.specs.Words.{signed};
 
 use crate::file_calls::{file_control_call, open_call, read_call, system_control_call, write_call};
 use crate::outcomes::DeviceOutcome;
@@ -117,13 +118,14 @@ fn open_direct(m: &Machine, kind: Kind, name: Bytes, mode: &[u8]) -> DeviceOutco
 }
 
 /// Call 37: a device is closed.
-pub fn device_close(m: &Machine, dev: u32) -> DeviceOutcome
+pub fn device_close(m: &Machine, dev: u32) -> Result<DeviceOutcome, NoMemory>
     requires start { IsStart m.now }
-    ensures close { comes_to m.now result ≡ model.device_close dev m.now.state }
+    ensures close { IfOk result (λ r. comes_to m.now r ≡ model.device_close dev m.now.state) }
+    ensures answers { is_ok result ≡ true }
 {
     match kind_for(Op::Close, dev) {
-        None => refuse(m),
-        Some(kind) => close_as(m, dev, kind),
+        None => Ok(refuse(m)),
+        Some(kind) => Ok(close_as(m, dev, kind)),
     }
 }
 
@@ -240,16 +242,16 @@ fn getc_as(m: &mut Machine, dev: u32, kind: Kind) -> Result<DeviceOutcome, NoMem
     }
 }
 
-/// Call 41: a character is written to a device.
-pub fn device_putc(m: &mut Machine, dev: u32, b: u8) -> Result<DeviceOutcome, NoMemory>
+/// Call 41: a character, the lowest byte of a word, is written to a device.
+pub fn device_putc(m: &mut Machine, dev: u32, word: u32) -> Result<DeviceOutcome, NoMemory>
     requires start { IsStart m.old }
     requires sound { IsSound m.old.state }
-    ensures putc { IfOk result (λ r. comes_to m.new r ≡ model.device_putc dev b m.old.state) }
+    ensures putc { IfOk result (λ r. comes_to m.new r ≡ model.device_putc dev (word % 256) m.old.state) }
     ensures files { IfOk result (λ r. LeavesFiles m.old r m.new) }
 {
     match kind_for(Op::Putc, dev) {
         None => Ok(refuse(m)),
-        Some(kind) => putc_as(m, dev, b, kind),
+        Some(kind) => putc_as(m, dev, (word % 256) as u8, kind),
     }
 }
 
@@ -269,14 +271,15 @@ fn putc_as(m: &mut Machine, dev: u32, b: u8, kind: Kind) -> Result<DeviceOutcome
     }
 }
 
-/// Call 42: a device has another position.
-pub fn device_seek(m: &Machine, dev: u32, n: i32) -> DeviceOutcome
+/// Call 42: a device has another position, a signed number.
+pub fn device_seek(m: &Machine, dev: u32, word: u32) -> Result<DeviceOutcome, NoMemory>
     requires start { IsStart m.now }
-    ensures seek { comes_to m.now result ≡ model.device_seek dev n m.now.state }
+    ensures seek { IfOk result (λ r. comes_to m.now r ≡ model.device_seek dev (signed word) m.now.state) }
+    ensures answers { is_ok result ≡ true }
 {
     match kind_for(Op::Seek, dev) {
-        None => refuse(m),
-        Some(kind) => seek_as(m, dev, n, kind),
+        None => Ok(refuse(m)),
+        Some(kind) => Ok(seek_as(m, dev, word.cast_signed(), kind)),
     }
 }
 

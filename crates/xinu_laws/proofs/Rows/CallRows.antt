@@ -1,9 +1,9 @@
 -- Rows are found by number: what holds of all rows of a list holds of the one that is found.
-use Rattle.std.proofs.Common.{◌≡◌, ℕ, ◌==◌, Bool, true, false, cond, List, [], ◌∷◌, filter, Option, Some, None, is_some, refl, sym, ap, subst, ◌∙◌}
+use Rattle.std.proofs.Common.{◌≡◌, ℕ, ◌==◌, Bool, true, false, cond, List, [], ◌∷◌, filter, Option, Some, None, is_some, option_map, refl, sym, ap, subst, ◌∙◌}
 use Rattle.std.specs.List.{AllByRecursion, list_all}
 use Rattle.std.proofs.lemmas.Bool.{cond_both, and_parts, eqb-true}
 use Rattle.xinu_model.specs.Calls.{calls}
-use Rattle.xinu_base.specs.Syscalls.{Syscall, is_call, syscall_in, syscalls}
+use Rattle.xinu_base.specs.Syscalls.{Syscall, family_of, is_call, syscall_in, syscalls}
 use Rattle.xinu_model.specs.Rows.{CallRow, found_in}
 
 -- rows in an option are equal if the options are
@@ -82,6 +82,15 @@ no_row number none = by_found (found_in calls number) refl
     by_found : (found : Option CallRow) → found_in calls number ≡ found → found ≡ None
     by_found None e = refl
     by_found (Some r) e = let some = has_call number r e in absurd (cc)
+
+-- what has no family isn't there
+not_there : (found : Option Syscall) → option_map (λ (row : Syscall). row.family) found ≡ None → is_some found ≡ false
+not_there None e = refl
+not_there (Some row) e = absurd (cc)
+
+-- A number without a family has no row.
+pub no_family : (number : ℕ) → family_of number ≡ None → found_in calls number ≡ None
+no_family number none = no_row number (not_there (syscall_in syscalls number) none)
 
 -- A number has a row if and only if it has a call.
 pub rows_are_syscalls : (number : ℕ) → is_some (found_in calls number) ≡ is_call number

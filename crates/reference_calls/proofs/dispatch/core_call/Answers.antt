@@ -1,4 +1,4 @@
-use Rattle.std.proofs.Common.{◌≡◌, ◌∙◌, ℕ, ap, arith, rules, w16, w32}
+use Rattle.std.proofs.Common.{◌∙◌, ℕ, rules, w16, w32}
 use Rattle.std.proofs.lemmas.Int.{to_z-of_z}
 use Rattle.std.specs.Prelude.{slice_index}
 use Rattle.xinu_model.specs.Calls.{calls}
@@ -6,174 +6,168 @@ use Rattle.xinu_model.specs.Clock.{sleep, sleepms}
 use Rattle.xinu_model.specs.Messages.{recvtime}
 use Rattle.xinu_model.specs.Process.Calls.{chprio, create}
 use Rattle.xinu_model.specs.Semaphores.Calls.{semcreate, semreset, signaln}
-use Rattle.reference_calls.proofs.Rows.{ok_row, ok_with, row_is}
+use Rattle.reference_calls.proofs.Rows.{ok_row, ok_with}
 use Rattle.reference_calls.proofs.dispatch.core_call.Goals as goal
 
-pub returns-in-1 : goal.returns-in-1
+pub returns-in-1-each_call : goal.returns-in-1-each_call
 unfolding calls
-returns-in-1 c =
-    record { call = row_is 1 c.args.call.number c.args.call.args c.args.m.now.state _ c.in-1.is c.getpid.ensures.getpid }
+returns-in-1-each_call c =
+    record { call = ok_row 1 c.args.call.number c.args.call.args c.args.m.now.state _ _ c.in-1-each_call.is c.each_call-getpid.ensures.getpid }
 
-pub returns-in-2 : goal.returns-in-2
+pub returns-in-2-each_call : goal.returns-in-2-each_call
 unfolding calls
-returns-in-2 c =
+returns-in-2-each_call c =
     let a : ℕ → ℕ = slice_index c.args.call.args in
     let s = c.args.m.now.state in
-    let is = to_z-of_z w16 c.half.result (search rules) ∙ c.half.ensures.half in
-    let done = ok_with (λ p. create (a 0) (a 1) p (a 3) (a 4) (a 5) s) _ _ _ _ is c.create.ensures.create in
-    record { call = ok_row 2 c.args.call.number c.args.call.args s _ _ c.in-2.is done }
+    let is = to_z-of_z w16 c.each_call-half.result (search rules) ∙ c.each_call-half.ensures.half in
+    let done = ok_with (λ p. create (a 0) (a 1) p (a 3) (a 4) (a 5) s) _ _ _ _ is c.each_call-create.ensures.create in
+    record { call = ok_row 2 c.args.call.number c.args.call.args s _ _ c.in-2-each_call.is done }
 
-pub returns-in-3 : goal.returns-in-3
+pub returns-in-3-each_call : goal.returns-in-3-each_call
 unfolding calls
-returns-in-3 c =
-    record { call = ok_row 3 c.args.call.number c.args.call.args c.args.m.now.state _ _ c.in-3.is c.resume.ensures.resume }
+returns-in-3-each_call c =
+    record { call = ok_row 3 c.args.call.number c.args.call.args c.args.m.now.state _ _ c.in-3-each_call.is c.each_call-resume.ensures.resume }
 
-pub returns-in-4 : goal.returns-in-4
+pub returns-in-4-each_call : goal.returns-in-4-each_call
 unfolding calls
-returns-in-4 c =
-    record { call = ok_row 4 c.args.call.number c.args.call.args c.args.m.now.state _ _ c.in-4.is c.suspend.ensures.suspend }
+returns-in-4-each_call c =
+    record { call = ok_row 4 c.args.call.number c.args.call.args c.args.m.now.state _ _ c.in-4-each_call.is c.each_call-suspend.ensures.suspend }
 
-pub returns-in-5 : goal.returns-in-5
+pub returns-in-5-each_call : goal.returns-in-5-each_call
 unfolding calls
-returns-in-5 c =
-    record { call = ok_row 5 c.args.call.number c.args.call.args c.args.m.now.state _ _ c.in-5.is c.kill.ensures.kill }
+returns-in-5-each_call c =
+    record { call = ok_row 5 c.args.call.number c.args.call.args c.args.m.now.state _ _ c.in-5-each_call.is c.each_call-kill.ensures.kill }
 
-pub returns-in-6 : goal.returns-in-6
+pub returns-in-6-each_call : goal.returns-in-6-each_call
 unfolding calls
-returns-in-6 c =
-    record { call = row_is 6 c.args.call.number c.args.call.args c.args.m.now.state _ c.in-6.is c.yield_now.ensures.yields }
+returns-in-6-each_call c =
+    record { call = ok_row 6 c.args.call.number c.args.call.args c.args.m.now.state _ _ c.in-6-each_call.is c.each_call-yield_now.ensures.yields }
 
-pub returns-in-7 : goal.returns-in-7
+pub returns-in-7-each_call : goal.returns-in-7-each_call
 unfolding calls
-returns-in-7 c =
+returns-in-7-each_call c =
     let a : ℕ → ℕ = slice_index c.args.call.args in
     let s = c.args.m.now.state in
-    let is = to_z-of_z w16 c.half-in-7.result (search rules) ∙ c.half-in-7.ensures.half in
-    let done = ok_with (λ p. chprio (a 0) p s) _ _ _ _ is c.chprio.ensures.chprio in
-    record { call = ok_row 7 c.args.call.number c.args.call.args s _ _ c.in-7.is done }
+    let is = to_z-of_z w16 c.each_call-half-in-7-1.result (search rules) ∙ c.each_call-half-in-7-1.ensures.half in
+    let done = ok_with (λ p. chprio (a 0) p s) _ _ _ _ is c.each_call-chprio.ensures.chprio in
+    record { call = ok_row 7 c.args.call.number c.args.call.args s _ _ c.in-7-each_call.is done }
 
-pub returns-in-8 : goal.returns-in-8
+pub returns-in-8-each_call : goal.returns-in-8-each_call
 unfolding calls
-returns-in-8 c =
-    record { call = row_is 8 c.args.call.number c.args.call.args c.args.m.now.state _ c.in-8.is c.getprio.ensures.getprio }
+returns-in-8-each_call c =
+    record { call = ok_row 8 c.args.call.number c.args.call.args c.args.m.now.state _ _ c.in-8-each_call.is c.each_call-getprio.ensures.getprio }
 
-pub returns-in-9 : goal.returns-in-9
+pub returns-in-9-each_call : goal.returns-in-9-each_call
 unfolding calls
-returns-in-9 c =
-    record { call = ok_row 9 c.args.call.number c.args.call.args c.args.m.now.state _ _ c.in-9.is c.exit.ensures.exit }
+returns-in-9-each_call c =
+    record { call = ok_row 9 c.args.call.number c.args.call.args c.args.m.now.state _ _ c.in-9-each_call.is c.each_call-exit.ensures.exit }
 
-pub returns-in-10 : goal.returns-in-10
+pub returns-in-10-each_call : goal.returns-in-10-each_call
 unfolding calls
-returns-in-10 c =
-    record { call = row_is 10 c.args.call.number c.args.call.args c.args.m.now.state _ c.in-10.is c.getmem.ensures.getmem }
+returns-in-10-each_call c =
+    record { call = ok_row 10 c.args.call.number c.args.call.args c.args.m.now.state _ _ c.in-10-each_call.is c.each_call-getmem.ensures.getmem }
 
-pub returns-in-11 : goal.returns-in-11
+pub returns-in-11-each_call : goal.returns-in-11-each_call
 unfolding calls
-returns-in-11 c =
-    record { call = row_is 11 c.args.call.number c.args.call.args c.args.m.now.state _ c.in-11.is c.freemem.ensures.freemem }
+returns-in-11-each_call c =
+    record { call = ok_row 11 c.args.call.number c.args.call.args c.args.m.now.state _ _ c.in-11-each_call.is c.each_call-freemem.ensures.freemem }
 
-pub returns-in-12 : goal.returns-in-12
+pub returns-in-12-each_call : goal.returns-in-12-each_call
 unfolding calls
-returns-in-12 c =
-    record { call = row_is 12 c.args.call.number c.args.call.args c.args.m.now.state _ c.in-12.is c.getstk.ensures.getstk }
+returns-in-12-each_call c =
+    record { call = ok_row 12 c.args.call.number c.args.call.args c.args.m.now.state _ _ c.in-12-each_call.is c.each_call-getstk.ensures.getstk }
 
-pub returns-in-13 : goal.returns-in-13
+pub returns-in-13-each_call : goal.returns-in-13-each_call
 unfolding calls
-returns-in-13 c =
-    record { call = row_is 13 c.args.call.number c.args.call.args c.args.m.now.state _ c.in-13.is c.freestk.ensures.freestk }
+returns-in-13-each_call c =
+    record { call = ok_row 13 c.args.call.number c.args.call.args c.args.m.now.state _ _ c.in-13-each_call.is c.each_call-freestk.ensures.freestk }
 
-pub returns-in-14 : goal.returns-in-14
+pub returns-in-14-each_call : goal.returns-in-14-each_call
 unfolding calls
-returns-in-14 c =
+returns-in-14-each_call c =
     let s = c.args.m.now.state in
-    let is = to_z-of_z w32 c.signed.result (search rules) ∙ c.signed.ensures.signed in
-    let done = c.semcreate.ensures.semcreate ∙ ap (λ n. semcreate n s) is in
-    record { call = row_is 14 c.args.call.number c.args.call.args s _ c.in-14.is done }
+    let is = to_z-of_z w32 c.each_call-signed.result (search rules) ∙ c.each_call-signed.ensures.signed in
+    let done = ok_with (λ n. semcreate n s) _ _ _ _ is c.each_call-semcreate.ensures.semcreate in
+    record { call = ok_row 14 c.args.call.number c.args.call.args s _ _ c.in-14-each_call.is done }
 
-pub returns-in-15 : goal.returns-in-15
+pub returns-in-15-each_call : goal.returns-in-15-each_call
 unfolding calls
-returns-in-15 c =
-    record { call = ok_row 15 c.args.call.number c.args.call.args c.args.m.now.state _ _ c.in-15.is c.semdelete.ensures.semdelete }
+returns-in-15-each_call c =
+    record { call = ok_row 15 c.args.call.number c.args.call.args c.args.m.now.state _ _ c.in-15-each_call.is c.each_call-semdelete.ensures.semdelete }
 
-pub returns-in-16 : goal.returns-in-16
+pub returns-in-16-each_call : goal.returns-in-16-each_call
 unfolding calls
-returns-in-16 c =
+returns-in-16-each_call c =
     let a : ℕ → ℕ = slice_index c.args.call.args in
     let s = c.args.m.now.state in
-    let is = to_z-of_z w32 c.signed-in-16.result (search rules) ∙ c.signed-in-16.ensures.signed in
-    let done = ok_with (λ n. semreset (a 0) n s) _ _ _ _ is c.semreset.ensures.semreset in
-    record { call = ok_row 16 c.args.call.number c.args.call.args s _ _ c.in-16.is done }
+    let is = to_z-of_z w32 c.each_call-signed-in-16-1.result (search rules) ∙ c.each_call-signed-in-16-1.ensures.signed in
+    let done = ok_with (λ n. semreset (a 0) n s) _ _ _ _ is c.each_call-semreset.ensures.semreset in
+    record { call = ok_row 16 c.args.call.number c.args.call.args s _ _ c.in-16-each_call.is done }
 
-pub returns-in-17 : goal.returns-in-17
+pub returns-in-17-each_call : goal.returns-in-17-each_call
 unfolding calls
-returns-in-17 c =
-    record { call = row_is 17 c.args.call.number c.args.call.args c.args.m.now.state _ c.in-17.is c.semcount.ensures.semcount }
+returns-in-17-each_call c =
+    record { call = ok_row 17 c.args.call.number c.args.call.args c.args.m.now.state _ _ c.in-17-each_call.is c.each_call-semcount.ensures.semcount }
 
-pub returns-in-18 : goal.returns-in-18
+pub returns-in-18-each_call : goal.returns-in-18-each_call
 unfolding calls
-returns-in-18 c =
-    record { call = ok_row 18 c.args.call.number c.args.call.args c.args.m.now.state _ _ c.in-18.is c.wait.ensures.wait }
+returns-in-18-each_call c =
+    record { call = ok_row 18 c.args.call.number c.args.call.args c.args.m.now.state _ _ c.in-18-each_call.is c.each_call-wait.ensures.wait }
 
-pub returns-in-19 : goal.returns-in-19
+pub returns-in-19-each_call : goal.returns-in-19-each_call
 unfolding calls
-returns-in-19 c =
-    record { call = ok_row 19 c.args.call.number c.args.call.args c.args.m.now.state _ _ c.in-19.is c.signal.ensures.signal }
+returns-in-19-each_call c =
+    record { call = ok_row 19 c.args.call.number c.args.call.args c.args.m.now.state _ _ c.in-19-each_call.is c.each_call-signal.ensures.signal }
 
-pub returns-in-20 : goal.returns-in-20
+pub returns-in-20-each_call : goal.returns-in-20-each_call
 unfolding calls
-returns-in-20 c =
+returns-in-20-each_call c =
     let a : ℕ → ℕ = slice_index c.args.call.args in
     let s = c.args.m.now.state in
-    let is = to_z-of_z w32 c.signed-in-20.result (search rules) ∙ c.signed-in-20.ensures.signed in
-    let done = ok_with (λ n. signaln (a 0) n s) _ _ _ _ is c.signaln.ensures.signaln in
-    record { call = ok_row 20 c.args.call.number c.args.call.args s _ _ c.in-20.is done }
+    let is = to_z-of_z w32 c.each_call-signed-in-20-1.result (search rules) ∙ c.each_call-signed-in-20-1.ensures.signed in
+    let done = ok_with (λ n. signaln (a 0) n s) _ _ _ _ is c.each_call-signaln.ensures.signaln in
+    record { call = ok_row 20 c.args.call.number c.args.call.args s _ _ c.in-20-each_call.is done }
 
-pub returns-in-21 : goal.returns-in-21
+pub returns-in-21-each_call : goal.returns-in-21-each_call
 unfolding calls
-returns-in-21 c =
-    record { call = ok_row 21 c.args.call.number c.args.call.args c.args.m.now.state _ _ c.in-21.is c.send.ensures.send }
+returns-in-21-each_call c =
+    record { call = ok_row 21 c.args.call.number c.args.call.args c.args.m.now.state _ _ c.in-21-each_call.is c.each_call-send.ensures.send }
 
-pub returns-in-22 : goal.returns-in-22
+pub returns-in-22-each_call : goal.returns-in-22-each_call
 unfolding calls
-returns-in-22 c =
-    record { call = ok_row 22 c.args.call.number c.args.call.args c.args.m.now.state _ _ c.in-22.is c.receive.ensures.receive }
+returns-in-22-each_call c =
+    record { call = ok_row 22 c.args.call.number c.args.call.args c.args.m.now.state _ _ c.in-22-each_call.is c.each_call-receive.ensures.receive }
 
-pub returns-in-23 : goal.returns-in-23
+pub returns-in-23-each_call : goal.returns-in-23-each_call
 unfolding calls
-returns-in-23 c =
-    record { call = ok_row 23 c.args.call.number c.args.call.args c.args.m.now.state _ _ c.in-23.is c.recvclr.ensures.recvclr }
+returns-in-23-each_call c =
+    record { call = ok_row 23 c.args.call.number c.args.call.args c.args.m.now.state _ _ c.in-23-each_call.is c.each_call-recvclr.ensures.recvclr }
 
-pub returns-in-24 : goal.returns-in-24
+pub returns-in-24-each_call : goal.returns-in-24-each_call
 unfolding calls
-returns-in-24 c =
+returns-in-24-each_call c =
     let s = c.args.m.now.state in
-    let is = to_z-of_z w32 c.signed-in-24.result (search rules) ∙ c.signed-in-24.ensures.signed in
-    let done = ok_with (λ n. recvtime n s) _ _ _ _ is c.recvtime.ensures.recvtime in
-    record { call = ok_row 24 c.args.call.number c.args.call.args s _ _ c.in-24.is done }
+    let is = to_z-of_z w32 c.each_call-signed-in-24-1.result (search rules) ∙ c.each_call-signed-in-24-1.ensures.signed in
+    let done = ok_with (λ n. recvtime n s) _ _ _ _ is c.each_call-recvtime.ensures.recvtime in
+    record { call = ok_row 24 c.args.call.number c.args.call.args s _ _ c.in-24-each_call.is done }
 
-pub returns-in-25 : goal.returns-in-25
+pub returns-in-25-each_call : goal.returns-in-25-each_call
 unfolding calls
-returns-in-25 c =
+returns-in-25-each_call c =
     let s = c.args.m.now.state in
-    let is = to_z-of_z w32 c.signed-in-25.result (search rules) ∙ c.signed-in-25.ensures.signed in
-    let done = ok_with (λ n. sleep n s) _ _ _ _ is c.sleep.ensures.sleep in
-    record { call = ok_row 25 c.args.call.number c.args.call.args s _ _ c.in-25.is done }
+    let is = to_z-of_z w32 c.each_call-signed-in-25-1.result (search rules) ∙ c.each_call-signed-in-25-1.ensures.signed in
+    let done = ok_with (λ n. sleep n s) _ _ _ _ is c.each_call-sleep.ensures.sleep in
+    record { call = ok_row 25 c.args.call.number c.args.call.args s _ _ c.in-25-each_call.is done }
 
-pub returns-in-26 : goal.returns-in-26
+pub returns-in-26-each_call : goal.returns-in-26-each_call
 unfolding calls
-returns-in-26 c =
+returns-in-26-each_call c =
     let s = c.args.m.now.state in
-    let is = to_z-of_z w32 c.signed-in-26.result (search rules) ∙ c.signed-in-26.ensures.signed in
-    let done = ok_with (λ n. sleepms n s) _ _ _ _ is c.sleepms.ensures.sleepms in
-    record { call = ok_row 26 c.args.call.number c.args.call.args s _ _ c.in-26.is done }
+    let is = to_z-of_z w32 c.each_call-signed-in-26-1.result (search rules) ∙ c.each_call-signed-in-26-1.ensures.signed in
+    let done = ok_with (λ n. sleepms n s) _ _ _ _ is c.each_call-sleepms.ensures.sleepms in
+    record { call = ok_row 26 c.args.call.number c.args.call.args s _ _ c.in-26-each_call.is done }
 
-pub returns-in-27 : goal.returns-in-27
+pub returns-in-27-each_call : goal.returns-in-27-each_call
 unfolding calls
-returns-in-27 c =
-    record { call = row_is 27 c.args.call.number c.args.call.args c.args.m.now.state _ c.in-27.is c.clktime.ensures.clktime }
-
-pub returns-in_default : goal.returns-in_default
-unfolding calls
-returns-in_default c =
-    let none : c.args.call.number ≡ 0 = omega arith in
-    record { call = row_is 0 c.args.call.number c.args.call.args c.args.m.now.state _ none (search rules) }
+returns-in-27-each_call c =
+    record { call = ok_row 27 c.args.call.number c.args.call.args c.args.m.now.state _ _ c.in-27-each_call.is c.each_call-clktime.ensures.clktime }
