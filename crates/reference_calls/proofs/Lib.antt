@@ -1,4 +1,3 @@
 pub mod HeapCells
 pub mod Made
-pub mod Rows
 pub mod Ticks

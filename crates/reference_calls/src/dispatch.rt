@@ -20,6 +20,7 @@ use reference_state::{Answer, Machine};
 use xinu_base::{Call, NoMemory, Rest, SYSERR, each_call};
 
 /// What the call of this number does with its arguments, for the calls on processes, memory, semaphores, messages and the clock.
+#[tactic(auto, unfolding(xinu_model::specs::Calls::calls))]
 pub fn core_call(m: &mut Machine, call: Call) -> Result<Answer, NoMemory>
     requires start { IsStart m.old }
     requires core { is_of Processes call.number ≡ true }

@@ -18,6 +18,7 @@ use reference_state::{Answer, Machine};
 use xinu_base::{Call, NoMemory, SYSERR, each_call};
 
 /// What the call of this number does with its arguments, for the calls on buffer pools and ports.
+#[tactic(auto, unfolding(xinu_model::specs::Calls::calls))]
 pub fn port_call(m: &mut Machine, call: Call) -> Result<Answer, NoMemory>
     requires start { IsStart m.old }
     requires ports { is_of family.Ports call.number ≡ true }

@@ -18,6 +18,7 @@ use reference_state::{Answer, Machine};
 use xinu_base::{Call, NoMemory, SYSERR, each_call};
 
 /// What the call of this number does with its arguments, for the calls on devices and names. A call on files is asked for, and not made.
+#[tactic(auto, using(crate::proofs::Stays::leaves_same_ok), unfolding(xinu_model::specs::Calls::calls))]
 pub fn device_call(m: &mut Machine, call: Call) -> Result<DeviceOutcome, NoMemory>
     requires start { IsStart m.old }
     requires devices { is_of Devices call.number ≡ true }
