@@ -19,11 +19,11 @@
 #![tactic(auto)]
 
 mod execute;
-mod fetch;
 mod ram;
 mod running;
+mod stepping;
 
-pub use fetch::step;
 pub use ram::{OutOfRam, Ram};
 pub use running::plain_steps;
+pub use stepping::step;
 pub use xinu_base::{Cause, Hart, Outcome, RAM_SIZE};

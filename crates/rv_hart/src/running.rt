@@ -3,8 +3,8 @@
 ghost use Rattle.std.specs.Prelude.{◌≡◌, ◌≤◌};
 ghost use Rattle.xinu_model.specs.Isa.Ran.{ran};
 
-use crate::fetch::step;
 use crate::ram::Ram;
+use crate::stepping::step;
 use xinu_base::{Hart, Outcome};
 
 /// Carries out plain instructions of a process, at most so many, and answers how many there were.

@@ -3,7 +3,7 @@ use Rattle.std.proofs.lemmas.Bool.{eq-eqb, ne_eqb}
 use Rattle.xinu_base.specs.Constants.{INITRET}
 use Rattle.xinu_model.proofs.ZeroRegister.{zero_register}
 use Rattle.rv_hart.proofs.Fetched.{ended, performs}
-use Rattle.rv_hart.proofs.fetch.step.Goals as goal
+use Rattle.rv_hart.proofs.stepping.step.Goals as goal
 
 pub returns-in-Some : goal.returns-in-Some
 returns-in-Some c =
