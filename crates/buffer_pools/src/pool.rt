@@ -19,7 +19,7 @@ pub(crate) struct Pool {
     size: u32,
     // How many buffers there are.
     number: u32,
-    // Its semaphore.
+    // The semaphore that counts the free buffers.
     semaphore: Sem,
     // The addresses of the free buffers, the one that was freed last at the end.
     free: Vec<u32>,
@@ -86,7 +86,7 @@ impl Pool {
         fill(&mut self.free, base + 4, size + 4, number);
     }
 
-    /// Its semaphore.
+    /// The semaphore that counts the free buffers.
     pub(crate) fn semaphore(&self) -> Sem
         ensures semaphore { result ≡ self.now.semaphore }
     {

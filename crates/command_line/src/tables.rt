@@ -17,9 +17,9 @@ pub(crate) struct OptionRow<'a> {
 /// A command or an action.
 #[derive(Clone, Copy)]
 pub(crate) struct CommandRow<'a> {
-    /// Its name.
+    /// The word that asks for it.
     pub(crate) name: &'a str,
-    /// Its options.
+    /// The options that it takes.
     pub(crate) options: &'a [OptionRow<'a>],
 }
 

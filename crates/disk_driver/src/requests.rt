@@ -23,7 +23,7 @@ pub struct Request {
 /// A request that was served.
 #[derive(Clone, Copy)]
 pub struct Done {
-    /// The request.
+    /// What was asked for.
     pub request: Request,
     /// The reply to its caller: 0, or -1 if it failed.
     pub reply: i32,

@@ -17,9 +17,9 @@ const CLASS_32: u8 = 1;
 const LOWEST_FIRST: u8 = 1;
 /// The version of the format.
 const VERSION: u8 = 1;
-/// A program.
+/// The type of a file that is a program.
 const PROGRAM: u16 = 2;
-/// RISC-V.
+/// The processor RISC-V.
 const RISC_V: u16 = 243;
 
 /// The fields of a file's header that say how it is loaded.

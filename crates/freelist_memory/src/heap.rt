@@ -14,7 +14,7 @@ use xinu_base::NoMemory;
 pub struct Heap {
     // The address of its first cell.
     low: u32,
-    // Its cells.
+    // Which cells are free.
     cells: FreeList,
 }
 

@@ -45,7 +45,7 @@ impl Text {
         }
     }
 
-    // The bytes.
+    // The bytes that are in use.
     pub(crate) fn bytes(&self) -> &[u8]
         ensures same { result.now ≡ self.now }
         ensures short { length result.now ≤ 31 }

@@ -27,7 +27,7 @@ pub enum Sent {
 /// A message that is received.
 #[derive(Clone, Copy, PartialEq, Eq)]
 pub struct Received {
-    /// The message.
+    /// The word that was sent.
     pub message: u32,
     /// The semaphore of the senders.
     pub send: Sem,

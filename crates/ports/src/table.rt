@@ -33,7 +33,7 @@ pub struct PortEntry {
     pub head: Option<PortHead>,
 }
 
-/// The ports.
+/// The ports by number, and the messages that wait in them.
 pub struct Ports {
     // The entries, by number.
     pub(crate) entries: [PortEntry; 30],

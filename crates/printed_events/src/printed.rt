@@ -25,14 +25,14 @@ impl Model for Printed {
 }
 
 impl Printed {
-    /// The bytes.
+    /// What was printed, in bytes.
     pub fn bytes(&self) -> &[u8]
         ensures bytes { result.now ≡ self.now }
     {
         self.host.sent(Channel::Out)
     }
 
-    /// The lines.
+    /// What was printed, as a text.
     pub fn lines(&self) -> &str
         ensures lines { IsUtf8 self.now → result.now ≡ self.now }
     {

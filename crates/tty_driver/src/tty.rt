@@ -85,7 +85,7 @@ impl Tty {
         })
     }
 
-    /// The mode.
+    /// How input is edited.
     pub fn mode(&self) -> TtyMode
         ensures mode { result ≡ self.now.mode }
     {
