@@ -6,11 +6,10 @@ use Rattle.lfs_check.specs.Rules.{block_in}
 use Rattle.lfs_check.specs.Disks.{block_put, entry_at, entries}
 use Rattle.file_laws.specs.StoredFiles.{entry_bytes}
 use Rattle.local_files.specs.declared.Files.{Files}
-use Rattle.local_files.specs.declared.Phase.{Phase}
 use Rattle.local_files.specs.Hands.{put_bytes}
 use Rattle.local_files.specs.Putting.{IsPutting, IsAt, IsAddWrite}
 use Rattle.local_files.specs.Steps.{at_byte, piece, with_index}
-use Rattle.local_files.specs.Standing.{Stands, InHand, GoesTo, call_bytes, IsStanding}
+use Rattle.local_files.specs.Standing.{Stands, GoesTo, call_bytes, IsStanding}
 use Rattle.local_files.proofs.Closings.{put_whole}
 use Rattle.xinu_model.specs.Files.Writing.{overwritten}
 use Rattle.std.proofs.Common.{◌-◌, ◌*◌, drop, replicate, length-append}
@@ -33,6 +32,7 @@ use Rattle.local_files.proofs.PutSteps.{ends_is, target_end}
 use Rattle.local_files.proofs.Pieces.{piece_is, piece_bytes, after_goes, piece_more, done_long, low_old}
 use Rattle.local_files.specs.declared.Phase.TheVariants.{Wants}
 use Rattle.local_files.specs.declared.Purpose.TheVariants.{AddWrite}
+use Rattle.local_files.proofs.Standing.{in_hand}
 
 -- lists that are the same at each place
 same_at : (xs ys : List ℕ) → length xs ≡ length ys → ((k : ℕ) → k < length xs → slice_index xs k ≡ slice_index ys k) → xs ≡ ys
@@ -135,8 +135,7 @@ pub add_written_goes : (e e' : Files) (b : ℕ) (base disk : List ℕ) → e.pha
     → e' ≡ next_put (put_done (with_index (added_index b e) e)) → Stands e base disk
     → GoesTo e'.phase e.call (call_bytes e) e e' base (block_put disk (6 + e.at / 7) e.block)
 add_written_goes e e' b base disk phase new s =
-    let H : Phase → Type 0 = λ p. InHand p e base disk in
-    let h : IsAddWrite e b base disk = subst H phase s.hand in
+    let h : IsAddWrite e b base disk = in_hand phase s in
     let k = h.filled.taken in let p = k.places in let u = k.putting in
     let st = s.standing in
     let g = growing e base disk p st u k.left k.ends in

@@ -21,7 +21,6 @@ use Rattle.local_files.specs.declared.OpenFile.{OpenFile}
 use Rattle.local_files.specs.declared.Files.{Files}
 use Rattle.local_files.specs.declared.FileCall.{FileCall}
 use Rattle.local_files.specs.declared.FileCall.TheVariants.{Open}
-use Rattle.local_files.specs.declared.Phase.{Phase}
 use Rattle.local_files.specs.Hands.{system, IsMade, IsDevice, IsOpenOn, AreApart, IsCall, IsCreating, IsClosing, IsEntryWrite, IsHeaderRead, IsEntryBlock, IsHeaderBlock, files_after, MayLook, name_of, but_blocks}
 use Rattle.local_files.specs.Steps.{device_at, answered, lowest_free, shown}
 use Rattle.local_files.specs.Standing.{Stands, InHand, GoesTo, call_bytes}
@@ -33,7 +32,7 @@ use Rattle.xinu_model.specs.Files.Opening as model_opening
 use Rattle.local_files.specs.Standing as engine
 use Rattle.local_files.specs.Opens.{opening as opening_file}
 use Rattle.lfs_format.specs.Directory.{dir_of, IsDirBlock}
-use Rattle.local_files.proofs.Standing.{on_made, with_block, with_disk}
+use Rattle.local_files.proofs.Standing.{on_made, with_block, with_disk, in_hand}
 use Rattle.local_files.specs.declared.Phase.TheVariants.{Wants}
 use Rattle.local_files.specs.declared.Purpose.TheVariants.{EntryRead, EntryWrite, HeaderRead, HeaderWrite}
 
@@ -55,8 +54,7 @@ pub put_entry_goes : (e e' : Files) (base disk read : List ℕ) → e.phase ≡ 
     → IsDirBlock (dir_with_entry (dir_of read) (e.slot % 13) e.entry) e'.block → Stands e base disk → read ≡ block_in disk (e.slot / 13)
     → GoesTo e'.phase e.call (call_bytes e) e e' base disk
 put_entry_goes e e' base disk read phase new put s honest =
-    let H : Phase → Type 0 = λ p. InHand p e base disk in
-    let hand : IsClosing e base disk = subst H phase s.hand in
+    let hand : IsClosing e base disk = in_hand phase s in
     let n : Files = record e { phase = Wants EntryWrite; block = e'.block } in
     let R : List ℕ → Type 0 = λ b. IsDirBlock (dir_with_entry (dir_of b) (e.slot % 13) e.entry) e'.block in
     let block : IsEntryBlock e disk e'.block = subst R honest put in
@@ -82,8 +80,7 @@ pub entry_written_goes : (e e' : Files) (base disk : List ℕ) → e.phase ≡ W
     → Stands e base disk → GoesTo e'.phase e.call (call_bytes e) e e' base (block_put disk (e.slot / 13) e.block)
 entry_written_goes e e' base disk phase new s =
     let n : Files = record e { phase = Wants HeaderRead } in
-    let H : Phase → Type 0 = λ p. InHand p e base disk in
-    let hand : IsEntryWrite e base disk = subst H phase s.hand in
+    let hand : IsEntryWrite e base disk = in_hand phase s in
     let many = blocks_many e base disk s in
     let at : e.slot / 13 < e.blocks = (let h = hand.slot in let m = many.0 in omega (arith, h, m)) in
     let after = block_put disk (e.slot / 13) e.block in
@@ -109,8 +106,7 @@ pub put_header_goes : (e e' : Files) (base disk read : List ℕ) → e.phase ≡
     → IsDirBlock (dir_with_header (dir_of read) e.header) e'.block → Stands e base disk → read ≡ block_in disk 0
     → GoesTo e'.phase e.call (call_bytes e) e e' base disk
 put_header_goes e e' base disk read phase new put s honest =
-    let H : Phase → Type 0 = λ p. InHand p e base disk in
-    let hand : IsHeaderRead e base disk = subst H phase s.hand in
+    let hand : IsHeaderRead e base disk = in_hand phase s in
     let R : List ℕ → Type 0 = λ b. IsDirBlock (dir_with_header (dir_of b) e.header) e'.block in
     let block : IsHeaderBlock e disk e'.block = subst R honest put in
     let P : Files → Type 0 = λ x. GoesTo x.phase e.call (call_bytes e) e x base disk in

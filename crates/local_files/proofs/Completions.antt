@@ -23,7 +23,7 @@ use Rattle.local_files.specs.declared.FileCall.TheVariants.{Open, Delete, Close,
 use Rattle.local_files.specs.declared.Phase.{Phase}
 use Rattle.local_files.specs.Hands.{system, name_of, IsSearch, IsReading, IsFetching, IsCutRead, IsCutWrite, IsFreeWrite}
 use Rattle.local_files.specs.Putting.{IsCounting, IsBegun, IsPatched, IsAddWrite, IsNewWrite, IsLinkWrite}
-use Rattle.local_files.specs.Standing.{Stands, InHand, call_of}
+use Rattle.local_files.specs.Standing.{Stands, call_of}
 use Rattle.local_files.specs.Steps.{answered, at_byte, device_at, device_of, lowest_free, is_truncate, with_piece, with_free_data, with_free_index, with_index}
 use Rattle.local_files.specs.Wanted.{going_on, to_write}
 use Rattle.local_files.specs.Takes.{walked, fetched}
@@ -42,6 +42,7 @@ use Rattle.local_files.proofs.Searching.{entry_found}
 use Rattle.local_files.proofs.Falls.{below_if, walked_less, fetched_less, next_put_less, reach_to_less, put_on_less, free_next_less, cutting_less}
 use Rattle.local_files.specs.declared.Phase.TheVariants.{Wants}
 use Rattle.local_files.specs.declared.Purpose.TheVariants.{Search, Walk, Fetch, Counts, Reach, PatchRead, PatchWrite, TakeRead, TakeWrite, AddRead, AddWrite, NewRead, NewWrite, LinkRead, LinkWrite, CutRead, CutWrite, FreeWrite, EntryRead, EntryWrite, HeaderRead, HeaderWrite}
+use Rattle.local_files.proofs.Standing.{in_hand}
 
 -- what is left is told by what is waited for
 falls : (e x : Files) (base : List ℕ) (p : Phase) → e.phase ≡ p → left x base < left_in p e base → left x base < left e base
@@ -85,7 +86,7 @@ found_falls e e' d k header entry name base disk read phase new named below this
     (omega (arith, block)) (λ n c. (let z = size n c in omega (arith, block, z))))
   where
     h : IsSearch e d base disk
-    h = let H : Phase → Type 0 = λ p. InHand p e base disk in subst H phase s.hand
+    h = in_hand phase s
 
     size : (n : List ℕ) → e.call ≡ Delete n → size_for (call_of e.call []) (system e base) ≡ (entry_at base (13 * d + k)).size
     size n c =
@@ -112,7 +113,7 @@ passed_falls e e' d header slot base disk phase new s =
     (λ _. omega (arith, block)) (λ _. over e.call (left_in (Wants (Search d)) e base) (omega (arith, block))))
   where
     block : d < 6
-    block = let H : Phase → Type 0 = λ p. InHand p e base disk in let h : IsSearch e d base disk = subst H phase s.hand in h.block
+    block = let h : IsSearch e d base disk = in_hand phase s in h.block
 
     over : (c : FileCall) (m : ℕ) → 4 < m → left (missing c (record e { header = header; slot = slot })) base < m
     over (Open n mode) m h =
@@ -153,8 +154,7 @@ walked_falls e e' rest at base read phase new =
 pub fetched_falls : (e e' : Files) (b : ℕ) (base disk read : List ℕ) → e.phase ≡ Wants (Fetch b) → e' ≡ fetched read e → Stands e base disk
     → left e' base < left e base
 fetched_falls e e' b base disk read phase new s =
-    let H : Phase → Type 0 = λ p. InHand p e base disk in
-    let w : IsFetching e b base disk = subst H phase s.hand in
+    let w : IsFetching e b base disk = in_hand phase s in
     let r = where_read e base disk s w.reading in
     falls_to e e' (fetched read e) base (Wants (Fetch b)) phase new (fetched_less read e base r.0 w.reading.left r.1.0 r.1.1)
 
@@ -177,7 +177,7 @@ counts_read_falls e e' base disk read phase new s =
     (λ (b : IsBegun e h.file). subst Q (sym (not_truncate e.call _ b.call)) (puts b)) h.begun)
   where
     h : IsCounting e base disk
-    h = let H : Phase → Type 0 = λ p. InHand p e base disk in subst H phase s.hand
+    h = in_hand phase s
 
     x : Files
     x = record e { header = header_2 (dir_of read) }
@@ -218,8 +218,7 @@ patch_read_falls e e' b base read phase new = falls_to e e' (to_write (PatchWrit
 pub patch_written_falls : (e e' : Files) (b : ℕ) (base disk : List ℕ) → e.phase ≡ Wants (PatchWrite b) → e' ≡ next_put (put_done e)
     → Stands e base disk → left e' base < left e base
 patch_written_falls e e' b base disk phase new s =
-    let H : Phase → Type 0 = λ p. InHand p e base disk in
-    let h : IsPatched e b base disk = subst H phase s.hand in
+    let h : IsPatched e b base disk = in_hand phase s in
     let r = h.patch.ready in let u = r.putting in let at = h.patch.reached in
     falls_to e e' (next_put (put_done e)) base (Wants (PatchWrite b)) phase new
     (put_on_less e (put_done e) base (1 + put_left e) (where_put e base disk r.places s.standing u) h.patch.left u.most
@@ -248,8 +247,7 @@ add_read_falls e e' b block base phase new = falls_to e e' (to_write (AddWrite b
 pub add_written_falls : (e e' : Files) (b : ℕ) (base disk : List ℕ) → e.phase ≡ Wants (AddWrite b)
     → e' ≡ next_put (put_done (with_index (added_index b e) e)) → Stands e base disk → left e' base < left e base
 add_written_falls e e' b base disk phase new s =
-    let H : Phase → Type 0 = λ p. InHand p e base disk in
-    let h : IsAddWrite e b base disk = subst H phase s.hand in
+    let h : IsAddWrite e b base disk = in_hand phase s in
     let k = h.filled.taken in let u = k.putting in let room = h.room in
     let some : 0 < at_byte e = (⊎_elim (λ (z : at_byte e < 1). absurd (room (omega (arith, z)))) (λ (z : 1 ≤ at_byte e). z)
     (cases_lt (at_byte e) 1)) in
@@ -268,8 +266,7 @@ new_read_falls e e' b i old block base phase new = falls_to e e' (to_write (NewW
 pub new_written_falls : (e e' : Files) (b i : ℕ) (base disk : List ℕ) → e.phase ≡ Wants (NewWrite b i) → e' ≡ new_written b i e → Stands e base disk
     → left e' base < left e base
 new_written_falls e e' b i base disk phase new s =
-    let H : Phase → Type 0 = λ p. InHand p e base disk in
-    let h : IsNewWrite e b i base disk = subst H phase s.hand in
+    let h : IsNewWrite e b i base disk = in_hand phase s in
     let n = h.new in let u = n.putting in
     let st = s.standing in
     let x = put_done (followed b i (record e { entry = record e.entry { first = i } })) in
@@ -292,8 +289,7 @@ link_read_falls e e' b i block base phase new = falls_to e e' (to_write (LinkWri
 pub link_written_falls : (e e' : Files) (b i : ℕ) (base disk : List ℕ) → e.phase ≡ Wants (LinkWrite b i)
     → e' ≡ next_put (put_done (followed b i e)) → Stands e base disk → left e' base < left e base
 link_written_falls e e' b i base disk phase new s =
-    let H : Phase → Type 0 = λ p. InHand p e base disk in
-    let h : IsLinkWrite e b i base disk = subst H phase s.hand in
+    let h : IsLinkWrite e b i base disk = in_hand phase s in
     let n = h.link.new in let u = n.putting in
     let st = s.standing in
     let x = put_done (followed b i e) in
@@ -308,8 +304,7 @@ link_written_falls e e' b i base disk phase new s =
 pub cut_read_falls : (e e' : Files) (index : Index) (block base disk : List ℕ) → e.phase ≡ Wants CutRead → e' ≡ to_write CutWrite block (with_index index e)
     → Stands e base disk → left e' base < left e base
 cut_read_falls e e' index block base disk phase new s =
-    let H : Phase → Type 0 = λ p. InHand p e base disk in
-    let h : IsCutRead e base disk = subst H phase s.hand in
+    let h : IsCutRead e base disk = in_hand phase s in
     let below = h.below in let long = h.cutting.chain_long in
     falls_to e e' (to_write CutWrite block (with_index index e)) base (Wants CutRead) phase new (omega (arith, below, long))
 
@@ -317,8 +312,7 @@ cut_read_falls e e' index block base disk phase new s =
 pub cut_written_falls : (e e' : Files) (base disk : List ℕ) → e.phase ≡ Wants CutWrite → e' ≡ free_next (cut_written e) → Stands e base disk
     → left e' base < left e base
 cut_written_falls e e' base disk phase new s =
-    let H : Phase → Type 0 = λ p. InHand p e base disk in
-    let h : IsCutWrite e base disk = subst H phase s.hand in
+    let h : IsCutWrite e base disk = in_hand phase s in
     let c = h.read.cutting in let short = c.short in let lt = h.read.below in
     let up : (e.reached + 1) % 4294967296 ≡ suc e.reached = omega (arith, short, lt) in
     falls_to e e' (free_next (cut_written e)) base (Wants CutWrite) phase new
@@ -328,8 +322,7 @@ cut_written_falls e e' base disk phase new s =
 pub free_written_falls : (e e' : Files) (b : ℕ) (base disk : List ℕ) → e.phase ≡ Wants (FreeWrite b) → e' ≡ free_next (free_written b e)
     → Stands e base disk → left e' base < left e base
 free_written_falls e e' b base disk phase new s =
-    let H : Phase → Type 0 = λ p. InHand p e base disk in
-    let h : IsFreeWrite e b base disk = subst H phase s.hand in
+    let h : IsFreeWrite e b base disk = in_hand phase s in
     let row = h.within in let some = h.some in let more = h.below in let long = h.cutting.blocks_long in
     let up : (e.freed + 1) % 4294967296 ≡ suc e.freed = omega (arith, row) in
     falls_to e e' (free_next (free_written b e)) base (Wants (FreeWrite b)) phase new

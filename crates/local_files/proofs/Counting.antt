@@ -8,11 +8,10 @@ use Rattle.file_laws.specs.StoredFiles.{entry_bytes}
 use Rattle.local_files.specs.declared.Files.{Files}
 use Rattle.local_files.specs.declared.FileCall.{FileCall}
 use Rattle.local_files.specs.declared.FileCall.TheVariants.{Open, Delete, Close, Read, Write, Getc, Putc, Seek, Truncate, Size}
-use Rattle.local_files.specs.declared.Phase.{Phase}
 use Rattle.local_files.specs.Hands.{IsOpenOn, put_bytes}
 use Rattle.local_files.specs.Putting.{IsPut, IsReady}
 use Rattle.local_files.specs.Steps.{device_at, device_of, is_truncate}
-use Rattle.local_files.specs.Standing.{Stands, InHand, GoesTo, call_bytes, IsStanding}
+use Rattle.local_files.specs.Standing.{Stands, GoesTo, call_bytes, IsStanding}
 use Rattle.lfs_format.specs.Directory.{dir_of}
 use Rattle.xinu_model.specs.Files.Writing.{overwritten}
 use Rattle.std.proofs.Common.{drop}
@@ -34,7 +33,7 @@ use Rattle.local_files.specs.Puts.{counts_read}
 use Rattle.local_files.proofs.CutWrites.{cutting_goes}
 use Rattle.lfs_check.specs.Fields.{header_2}
 use Rattle.std.proofs.lemmas.List.{take-append-drop}
-use Rattle.local_files.proofs.Standing.{at_base}
+use Rattle.local_files.proofs.Standing.{at_base, in_hand}
 use Rattle.local_files.specs.declared.Phase.TheVariants.{Wants}
 use Rattle.local_files.specs.declared.Purpose.TheVariants.{Counts}
 
@@ -79,7 +78,7 @@ counts_read_goes e e' base disk read phase new s honest =
     P y = GoesTo y.phase e.call (call_bytes e) e y base base
 
     h : IsCounting e base disk
-    h = let H : Phase → Type 0 = λ p. InHand p e base disk in subst H phase s.hand
+    h = in_hand phase s
 
     x : Files
     x = record e { header = header_2 (dir_of read) }

@@ -8,8 +8,7 @@ use Rattle.lfs_check.specs.Disks.{block_put, entry_at}
 use Rattle.file_laws.specs.StoredFiles.{entry_bytes}
 use Rattle.file_laws.proofs.Counted.{entry_small}
 use Rattle.local_files.specs.declared.Files.{Files}
-use Rattle.local_files.specs.declared.Phase.{Phase}
-use Rattle.local_files.specs.Standing.{Stands, InHand, GoesTo, call_bytes, IsStanding}
+use Rattle.local_files.specs.Standing.{Stands, GoesTo, call_bytes, IsStanding}
 use Rattle.local_files.proofs.Closings.{put_whole}
 use Rattle.std.proofs.Common.{◌-◌, ◌*◌, drop, replicate}
 use Rattle.lfs_format.specs.Words.{word_of}
@@ -32,7 +31,7 @@ use Rattle.local_files.specs.Cuts.{cutting, end_cut, cut_written, freed_index, f
 use Rattle.local_files.proofs.Closings.{put_whole}
 use Rattle.local_files.proofs.Freeing.{end_cut_goes, some_at, goes_from}
 use Rattle.local_files.proofs.CutSteps.{for_cut, cutting_kept, cut_at_goes, free_next_goes}
-use Rattle.local_files.proofs.Standing.{with_block, with_disk}
+use Rattle.local_files.proofs.Standing.{with_block, with_disk, in_hand}
 use Rattle.local_files.specs.declared.Phase.TheVariants.{Wants}
 use Rattle.local_files.specs.Steps.{with_index}
 use Rattle.local_files.specs.Wanted.{going_on, to_write}
@@ -43,8 +42,7 @@ pub cut_read_goes : (e e' : Files) (base disk read : List ℕ) → e.phase ≡ W
     → IsIndexPut read (e.at % 7) (freed_index (index_at (e.at % 7) read) e) e'.block → Stands e base disk
     → read ≡ block_in disk (6 + e.at / 7) → GoesTo e'.phase e.call (call_bytes e) e e' base disk
 cut_read_goes e e' base disk read phase new put s honest =
-    let H : Phase → Type 0 = λ p. InHand p e base disk in
-    let r : IsCutRead e base disk = subst H phase s.hand in
+    let r : IsCutRead e base disk = in_hand phase s in
     let c = r.cutting in
     let i = slice_index c.chain e.reached in
     let index : index_at (e.at % 7) read ≡ index_for e.reached c.chain c.blocks =
@@ -76,8 +74,7 @@ cut_read_goes e e' base disk read phase new put s honest =
 pub cut_written_goes : (e e' : Files) (base disk : List ℕ) → e.phase ≡ Wants CutWrite → e' ≡ free_next (cut_written e) → Stands e base disk
     → GoesTo e'.phase e.call (call_bytes e) e e' base (block_put disk (6 + e.at / 7) e.block)
 cut_written_goes e e' base disk phase new s =
-    let H : Phase → Type 0 = λ p. InHand p e base disk in
-    let w : IsCutWrite e base disk = subst H phase s.hand in
+    let w : IsCutWrite e base disk = in_hand phase s in
     let r = w.read in let c = r.cutting in
     let i = slice_index c.chain e.reached in
     let made = block_put disk (6 + e.at / 7) e.block in
@@ -110,8 +107,7 @@ cut_written_goes e e' base disk phase new s =
 pub free_written_goes : (e e' : Files) (b : ℕ) (base disk : List ℕ) → e.phase ≡ Wants (FreeWrite b) → e' ≡ free_next (free_written b e)
     → Stands e base disk → GoesTo e'.phase e.call (call_bytes e) e e' base (block_put disk b e.block)
 free_written_goes e e' b base disk phase new s =
-    let H : Phase → Type 0 = λ p. InHand p e base disk in
-    let w : IsFreeWrite e b base disk = subst H phase s.hand in
+    let w : IsFreeWrite e b base disk = in_hand phase s in
     let c = w.cutting in let k = 16 * (e.reached - 1) + e.freed in
     let x = slice_index c.blocks k in
     let made = block_put disk b e.block in

@@ -17,10 +17,9 @@ use Rattle.local_files.specs.declared.OpenFile.{OpenFile}
 use Rattle.local_files.specs.declared.Files.{Files}
 use Rattle.local_files.specs.declared.FileCall.{FileCall}
 use Rattle.local_files.specs.declared.FileCall.TheVariants.{Open, Delete, Close, Read, Write, Getc, Putc, Seek, Truncate, Size}
-use Rattle.local_files.specs.declared.Phase.{Phase}
 use Rattle.local_files.specs.Hands.{system, IsEnding, IsMade, IsHeaderWrite, IsDevice, IsOpenOn, AreApart, IsCall, IsWritten, IsEmptied, IsDeleting, files_after, MayLook, name_of, seen, put_bytes, but_blocks}
 use Rattle.local_files.specs.Steps.{device_at, answered, with_device, lowest_free, shown, kept_at, counted, at_byte, device_of, is_write, is_truncate, has_this_open, is_this_open}
-use Rattle.local_files.specs.Standing.{Stands, InHand, GoesTo, call_bytes, given_bytes}
+use Rattle.local_files.specs.Standing.{Stands, GoesTo, call_bytes, given_bytes}
 use Rattle.local_files.specs.Opens.{opened, ended}
 use Rattle.local_files.proofs.Devices.{apart_moved, device_some, shown_set, is_open_same, shown_at, some_below, apart_set}
 use Rattle.xinu_model.specs.Files.Systems as systems
@@ -28,7 +27,7 @@ use Rattle.xinu_model.specs.Files.Calls as model
 use Rattle.local_files.proofs.Closings.{made_open}
 use Rattle.file_laws.proofs.Effects.{write_effect, putc_effect, truncate_effect, delete_effect}
 use Rattle.xinu_model.specs.Files.Writing.{overwritten, fitting}
-use Rattle.local_files.proofs.Standing.{on_made}
+use Rattle.local_files.proofs.Standing.{on_made, in_hand}
 use Rattle.local_files.specs.declared.Phase.TheVariants.{Wants}
 use Rattle.local_files.specs.declared.Purpose.TheVariants.{HeaderWrite}
 
@@ -288,7 +287,7 @@ header_written_goes e e' base disk phase new s =
     subst P (sym new) (by_call e.call refl hand.ending)
   where
     hand : IsHeaderWrite e base disk
-    hand = let H : Phase → Type 0 = λ p. InHand p e base disk in subst H phase s.hand
+    hand = in_hand phase s
 
     made : List ℕ
     made = block_put disk 0 e.block

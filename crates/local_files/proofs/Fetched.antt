@@ -14,11 +14,10 @@ use Rattle.local_files.specs.declared.OpenFile.{OpenFile}
 use Rattle.local_files.specs.declared.Files.{Files}
 use Rattle.local_files.specs.declared.FileCall.{FileCall}
 use Rattle.local_files.specs.declared.FileCall.TheVariants.{Open, Delete, Close, Read, Write, Getc, Putc, Seek, Truncate, Size}
-use Rattle.local_files.specs.declared.Phase.{Phase}
 use Rattle.local_files.specs.Hands.{system, IsOpenOn, seen, put_bytes, IsReading, IsFetching, read_count}
 use Rattle.local_files.specs.Steps.{device_at, answered, with_device, shown, at_byte, device_of, piece, or_none, named_device, moved_to}
 use Rattle.local_files.specs.Wanted.{going_on}
-use Rattle.local_files.specs.Standing.{Stands, InHand, GoesTo, call_bytes, given_bytes, IsStanding}
+use Rattle.local_files.specs.Standing.{Stands, GoesTo, call_bytes, given_bytes, IsStanding}
 use Rattle.local_files.proofs.Devices.{shown_set, shown_at}
 use Rattle.xinu_model.specs.Files.Systems as systems
 use Rattle.file_laws.proofs.Effects.{read_effect, getc_effect}
@@ -37,7 +36,7 @@ use Rattle.file_laws.proofs.Patched.{block_long}
 use Rattle.file_laws.proofs.Fitting.{length_overwritten}
 use Rattle.local_files.proofs.Ends.{counted_small}
 use Rattle.local_files.proofs.Taking.{open_of, reading_file, where_is, walking_goes, fetching_goes, block_of, take_add, first_of, first_taken, take_min, no_bytes, moved_stands}
-use Rattle.local_files.proofs.Standing.{at_base, with_buffer}
+use Rattle.local_files.proofs.Standing.{at_base, with_buffer, in_hand}
 use Rattle.local_files.specs.declared.Phase.TheVariants.{Done, Wants}
 use Rattle.local_files.specs.declared.Purpose.TheVariants.{Walk, Fetch}
 
@@ -58,7 +57,7 @@ fetched_goes e e' b base disk read phase wide new s honest =
     G x = GoesTo x.phase e.call (call_bytes e) e x base base
 
     w : IsFetching e b base disk
-    w = let H : Phase → Type 0 = λ p. InHand p e base disk in subst H phase s.hand
+    w = in_hand phase s
 
     r : IsReading e base
     r = w.reading

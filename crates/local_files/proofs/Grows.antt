@@ -12,7 +12,7 @@ use Rattle.local_files.specs.Hands.{put_bytes}
 use Rattle.local_files.specs.Putting.{IsTake, IsTakeWrite, IsFilled}
 use Rattle.local_files.specs.Steps.{answered, at_byte, piece, with_piece, with_free_data}
 use Rattle.local_files.specs.Wanted.{going_on, to_write}
-use Rattle.local_files.specs.Standing.{Stands, InHand, GoesTo, call_bytes}
+use Rattle.local_files.specs.Standing.{Stands, GoesTo, call_bytes}
 use Rattle.local_files.proofs.Closings.{put_whole}
 use Rattle.xinu_model.specs.Files.Writing.{overwritten}
 use Rattle.std.proofs.Common.{drop, replicate}
@@ -33,7 +33,7 @@ use Rattle.file_laws.proofs.Patched.{held_range, times_first}
 use Rattle.local_files.specs.Puts.{take_written, added_index}
 use Rattle.local_files.proofs.PutSteps.{put_changed, put_kept}
 use Rattle.local_files.proofs.Pieces.{IsPiece, piece_is, piece_bytes, patched_is}
-use Rattle.local_files.proofs.Standing.{with_block, with_disk}
+use Rattle.local_files.proofs.Standing.{with_block, with_disk, in_hand}
 use Rattle.local_files.specs.declared.Phase.TheVariants.{Wants}
 use Rattle.local_files.specs.declared.Purpose.TheVariants.{TakeRead, TakeWrite, AddRead, AddWrite, NewRead}
 
@@ -41,8 +41,7 @@ use Rattle.local_files.specs.declared.Purpose.TheVariants.{TakeRead, TakeWrite, 
 pub take_read_goes : (e e' : Files) (b : ℕ) (base disk read : List ℕ) → e.phase ≡ Wants (TakeRead b) → e' ≡ to_write (TakeWrite b) (with_piece 0 (replicate 512 0) e) (with_free_data (word_of read) e)
     → length e'.block ≡ 512 → Stands e base disk → read ≡ block_in disk b → GoesTo e'.phase e.call (call_bytes e) e e' base disk
 take_read_goes e e' b base disk read phase new wide s honest =
-    let H : Phase → Type 0 = λ p. InHand p e base disk in
-    let h : IsTake e b base disk = subst H phase s.hand in
+    let h : IsTake e b base disk = in_hand phase s in
     let r = h.ready in let p = r.places in let u = r.putting in
     let bytes = overwritten e.counters.position (take e.counters.done (put_bytes e)) (entry_bytes base (entry_at base e.slot)) in
     let e2 : Files = to_write (TakeWrite b) (with_piece 0 (replicate 512 0) e) (with_free_data (word_of read) e) in
@@ -119,7 +118,7 @@ take_written_goes e e' b base disk phase new s = subst P (sym new) (either-way (
     P x = GoesTo x.phase e.call (call_bytes e) e x base (block_put disk b e.block)
 
     h : IsTakeWrite e b base disk
-    h = let H : Phase → Type 0 = λ p. InHand p e base disk in subst H phase s.hand
+    h = in_hand phase s
 
     bytes : List ℕ
     bytes = overwritten e.counters.position (take e.counters.done (put_bytes e)) (entry_bytes base (entry_at base e.slot))
@@ -184,8 +183,7 @@ pub add_read_goes : (e e' : Files) (b : ℕ) (base disk read : List ℕ) → e.p
     → IsIndexPut read (e.at % 7) (added_index b e) e'.block → Stands e base disk → read ≡ block_in disk (6 + e.at / 7)
     → GoesTo e'.phase e.call (call_bytes e) e e' base disk
 add_read_goes e e' b base disk read phase new put s honest =
-    let H : Phase → Type 0 = λ p. InHand p e base disk in
-    let h = subst H phase s.hand in
+    let h = in_hand phase s in
     let R : List ℕ → Type 0 = λ x. IsIndexPut x (e.at % 7) (added_index b e) e'.block in
     let P : Files → Type 0 = λ x. GoesTo x.phase e.call (call_bytes e) e x base disk in
     subst P (sym new) (

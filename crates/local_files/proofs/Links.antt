@@ -4,12 +4,11 @@ use Rattle.lfs_check.specs.Rules.{block_in}
 use Rattle.lfs_check.specs.Disks.{block_put, entry_at}
 use Rattle.file_laws.specs.StoredFiles.{entry_bytes}
 use Rattle.local_files.specs.declared.Files.{Files}
-use Rattle.local_files.specs.declared.Phase.{Phase}
 use Rattle.local_files.specs.Hands.{put_bytes}
 use Rattle.local_files.specs.Putting.{IsAt}
 use Rattle.local_files.specs.Steps.{at_byte}
 use Rattle.local_files.specs.Wanted.{to_write}
-use Rattle.local_files.specs.Standing.{Stands, InHand, GoesTo, call_bytes}
+use Rattle.local_files.specs.Standing.{Stands, GoesTo, call_bytes}
 use Rattle.local_files.proofs.Closings.{put_whole}
 use Rattle.xinu_model.specs.Files.Writing.{overwritten}
 use Rattle.std.proofs.Common.{◌-◌, ◌*◌, length-append}
@@ -28,7 +27,7 @@ use Rattle.local_files.proofs.Putting.{put_small, put_open}
 use Rattle.local_files.proofs.Adds.{growing, slot_lists, append_last}
 use Rattle.file_laws.proofs.Patched.{middle_continued}
 use Rattle.local_files.proofs.NewBlocks.{next_index, named_index}
-use Rattle.local_files.proofs.Standing.{with_block}
+use Rattle.local_files.proofs.Standing.{with_block, in_hand}
 use Rattle.local_files.specs.declared.Phase.TheVariants.{Wants}
 use Rattle.local_files.specs.declared.Purpose.TheVariants.{LinkRead, LinkWrite}
 
@@ -38,8 +37,7 @@ pub link_read_goes : (e e' : Files) (b i : ℕ) (base disk read : List ℕ) → 
     → read ≡ block_in disk (6 + e.at / 7)
     → GoesTo e'.phase e.call (call_bytes e) e e' base disk
 link_read_goes e e' b i base disk read phase new put s honest =
-    let H : Phase → Type 0 = λ p. InHand p e base disk in
-    let h : IsLink e b i base disk = subst H phase s.hand in
+    let h : IsLink e b i base disk = in_hand phase s in
     let n = h.new in let u = n.putting in
     let R : List ℕ → Type 0 = λ x. IsIndexPut x (e.at % 7) (linked_index i (index_at (e.at % 7) x)) e'.block in
     let P : Files → Type 0 = λ x. GoesTo x.phase e.call (call_bytes e) e x base disk in
@@ -75,8 +73,7 @@ link_read_goes e e' b i base disk read phase new put s honest =
 pub link_written_goes : (e e' : Files) (b i : ℕ) (base disk : List ℕ) → e.phase ≡ Wants (LinkWrite b i) → e' ≡ next_put (put_done (followed b i e))
     → Stands e base disk → GoesTo e'.phase e.call (call_bytes e) e e' base (block_put disk (6 + e.at / 7) e.block)
 link_written_goes e e' b i base disk phase new s =
-    let H : Phase → Type 0 = λ p. InHand p e base disk in
-    let h : IsLinkWrite e b i base disk = subst H phase s.hand in
+    let h : IsLinkWrite e b i base disk = in_hand phase s in
     let n = h.link.new in let p = n.places in let u = n.putting in
     let st = s.standing in
     let g = growing e base disk p st u n.left n.ends in

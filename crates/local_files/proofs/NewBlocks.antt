@@ -6,12 +6,11 @@ use Rattle.lfs_check.specs.Disks.{block_put, entry_at}
 use Rattle.lfs_check.proofs.BlockPuts.{put_same, put_other}
 use Rattle.file_laws.specs.StoredFiles.{entry_bytes}
 use Rattle.local_files.specs.declared.Files.{Files}
-use Rattle.local_files.specs.declared.Phase.{Phase}
 use Rattle.local_files.specs.Hands.{put_bytes}
 use Rattle.local_files.specs.Putting.{IsPutting, IsAt}
 use Rattle.local_files.specs.Steps.{at_byte, piece, with_free_index}
 use Rattle.local_files.specs.Wanted.{to_write}
-use Rattle.local_files.specs.Standing.{Stands, InHand, GoesTo, call_bytes}
+use Rattle.local_files.specs.Standing.{Stands, GoesTo, call_bytes}
 use Rattle.local_files.proofs.Closings.{put_whole}
 use Rattle.xinu_model.specs.Files.Writing.{overwritten}
 use Rattle.std.proofs.Common.{◌-◌, ◌*◌, drop, replicate, length-append}
@@ -40,7 +39,7 @@ use Rattle.file_laws.proofs.Freed.{middle_index_held}
 use Rattle.file_laws.proofs.Patched.{middle_started}
 use Rattle.lfs_check.proofs.Steps.{index_for-more}
 use Rattle.lfs_check.proofs.KeepsAll.{either-way}
-use Rattle.local_files.proofs.Standing.{with_block, with_disk}
+use Rattle.local_files.proofs.Standing.{with_block, with_disk, in_hand}
 use Rattle.local_files.specs.declared.Phase.TheVariants.{Wants}
 use Rattle.local_files.specs.declared.Purpose.TheVariants.{NewRead, NewWrite, LinkRead}
 
@@ -50,8 +49,7 @@ pub new_read_goes : (e e' : Files) (b i : ℕ) (base disk read : List ℕ) → e
     → read ≡ block_in disk (6 + i / 7)
     → GoesTo e'.phase e.call (call_bytes e) e e' base disk
 new_read_goes e e' b i base disk read phase new put s honest =
-    let H : Phase → Type 0 = λ p. InHand p e base disk in
-    let h = subst H phase s.hand in
+    let h = in_hand phase s in
     let k = h.0.taken in let p = k.places in let u = k.putting in
     let z = h.1.0 in let head = h.1.1 in
     let bytes = overwritten e.counters.position (take e.counters.done (put_bytes e)) (entry_bytes base (entry_at base e.slot)) in
@@ -175,7 +173,7 @@ new_written_goes e e' b i base disk phase new s = subst P (sym new) (either-way 
     e2 = record e { phase = Wants (LinkRead b i) }
 
     h : IsNewWrite e b i base disk
-    h = let H : Phase → Type 0 = λ p. InHand p e base disk in subst H phase s.hand
+    h = in_hand phase s
 
     n : IsNew e b i base disk
     n = h.new

@@ -24,16 +24,15 @@ use Rattle.file_laws.proofs.Resting.{clean_holds, creating_holds}
 use Rattle.local_files.specs.declared.Files.{Files}
 use Rattle.local_files.specs.declared.FileCall.{FileCall}
 use Rattle.local_files.specs.declared.FileCall.TheVariants.{Open, Delete, Close, Read, Write, Getc, Putc, Seek, Truncate, Size}
-use Rattle.local_files.specs.declared.Phase.{Phase}
 use Rattle.local_files.specs.Hands.{system, IsSearch, IsFreeSlot, IsMade, IsEnding, IsCall, name_of, put_bytes, files_after, MayLook, but_blocks}
 use Rattle.local_files.specs.Steps.{answered}
-use Rattle.local_files.specs.Standing.{Stands, InHand, GoesTo, given_bytes, call_bytes}
+use Rattle.local_files.specs.Standing.{Stands, GoesTo, given_bytes, call_bytes}
 use Rattle.local_files.specs.Opens.{IsNoted, IsLook, missing, searching_on}
 use Rattle.local_files.proofs.Closings.{blocks_many}
 use Rattle.xinu_model.specs.Files.Opening as model_opening
 use Rattle.file_laws.proofs.Effects.{delete_refused}
 use Rattle.local_files.proofs.Searching.{opening_of, begins_stored, none_of, head}
-use Rattle.local_files.proofs.Standing.{at_base}
+use Rattle.local_files.proofs.Standing.{at_base, in_hand}
 use Rattle.local_files.specs.declared.Phase.TheVariants.{Wants}
 use Rattle.local_files.specs.declared.Purpose.TheVariants.{Search, EntryRead}
 
@@ -223,7 +222,7 @@ pass_goes e e' d header name base disk read phase counts new named not_here note
     refl))
   where
     hand : IsSearch e d base disk
-    hand = let H : Phase → Type 0 = λ p. InHand p e base disk in subst H phase s.hand
+    hand = in_hand phase s
 
     h : IsSearch e d base base
     h = record {

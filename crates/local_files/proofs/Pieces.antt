@@ -7,12 +7,11 @@ use Rattle.lfs_check.specs.Disks.{block_put, entry_at}
 use Rattle.file_laws.specs.StoredFiles.{entry_bytes}
 use Rattle.file_laws.proofs.Named.{bytes_sized}
 use Rattle.local_files.specs.declared.Files.{Files}
-use Rattle.local_files.specs.declared.Phase.{Phase}
 use Rattle.local_files.specs.Hands.{put_bytes}
 use Rattle.local_files.specs.Putting.{IsPutting, IsReady, IsAt, IsReach, IsPatch, IsPatched}
 use Rattle.local_files.specs.Steps.{answered, at_byte, piece, with_piece}
 use Rattle.local_files.specs.Wanted.{to_write}
-use Rattle.local_files.specs.Standing.{Stands, InHand, GoesTo, call_bytes, IsStanding}
+use Rattle.local_files.specs.Standing.{Stands, GoesTo, call_bytes, IsStanding}
 use Rattle.local_files.proofs.Closings.{put_whole}
 use Rattle.xinu_model.specs.Files.Writing.{overwritten}
 use Rattle.std.proofs.Common.{◌-◌, ◌*◌, drop, length-drop}
@@ -37,7 +36,7 @@ use Rattle.local_files.proofs.Putting.{put_open, put_entry_is, put_small, where_
 use Rattle.local_files.proofs.PutSteps.{put_kept, ready_kept, inside_is, target_in, next_put_goes}
 use Rattle.local_files.specs.Buffers.{patched}
 use Rattle.file_laws.proofs.Overwrites.{overwritten_more}
-use Rattle.local_files.proofs.Standing.{with_block, with_disk}
+use Rattle.local_files.proofs.Standing.{with_block, with_disk, in_hand}
 use Rattle.local_files.specs.declared.Phase.TheVariants.{Wants}
 use Rattle.local_files.specs.declared.Purpose.TheVariants.{Reach, PatchRead, PatchWrite}
 
@@ -185,8 +184,7 @@ pub patch_read_goes : (e e' : Files) (b : ℕ) (base disk read : List ℕ) → e
     → length read ≡ 512 → length e'.block ≡ 512 → Stands e base disk → read ≡ block_in disk b
     → GoesTo e'.phase e.call (call_bytes e) e e' base disk
 patch_read_goes e e' b base disk read phase new wide wide' s honest =
-    let H : Phase → Type 0 = λ p. InHand p e base disk in
-    let h : IsPatch e b base disk = subst H phase s.hand in
+    let h : IsPatch e b base disk = in_hand phase s in
     let block = patched e.counters.done (piece e) (at_byte e % 512) e.buffer read in
     let e2 : Files = record e { block = block; phase = Wants (PatchWrite b) } in
     let P : Files → Type 0 = λ x. GoesTo x.phase e.call (call_bytes e) e x base disk in
@@ -213,8 +211,7 @@ patch_read_goes e e' b base disk read phase new wide wide' s honest =
 pub patch_written_goes : (e e' : Files) (b : ℕ) (base disk : List ℕ) → e.phase ≡ Wants (PatchWrite b) → e' ≡ next_put (put_done e)
     → Stands e base disk → GoesTo e'.phase e.call (call_bytes e) e e' base (block_put disk b e.block)
 patch_written_goes e e' b base disk phase new s =
-    let H : Phase → Type 0 = λ p. InHand p e base disk in
-    let h : IsPatched e b base disk = subst H phase s.hand in
+    let h : IsPatched e b base disk = in_hand phase s in
     let r = h.patch.ready in let p = r.places in let u = r.putting in
     let st = s.standing in
     let q = e.counters.position + e.counters.done in
@@ -263,7 +260,7 @@ reached_goes e e' rest at base disk read phase new s honest = subst P (sym new) 
     P x = GoesTo x.phase e.call (call_bytes e) e x base disk
 
     h : IsReach e rest at base disk
-    h = let H : Phase → Type 0 = λ p. InHand p e base disk in subst H phase s.hand
+    h = in_hand phase s
 
     st : IsStanding e base disk
     st = s.standing

@@ -24,10 +24,9 @@ use Rattle.local_files.specs.declared.OpenFile.{OpenFile}
 use Rattle.local_files.specs.declared.Files.{Files}
 use Rattle.local_files.specs.declared.FileCall.{FileCall}
 use Rattle.local_files.specs.declared.FileCall.TheVariants.{Open, Delete, Close, Read, Write, Getc, Putc, Seek, Truncate, Size}
-use Rattle.local_files.specs.declared.Phase.{Phase}
 use Rattle.local_files.specs.Hands.{system, IsSearch, IsDevice, AreApart, IsCall, name_of, put_bytes, MayLook}
 use Rattle.local_files.specs.Steps.{device_at, answered, lowest_free, is_this_open}
-use Rattle.local_files.specs.Standing.{Stands, InHand, GoesTo, given_bytes, call_bytes, IsStanding}
+use Rattle.local_files.specs.Standing.{Stands, GoesTo, given_bytes, call_bytes, IsStanding}
 use Rattle.local_files.specs.Opens.{IsLook, opened, finding, opening_at}
 use Rattle.local_files.proofs.Closings.{blocks_many}
 use Rattle.local_files.proofs.Devices.{answered_stands, set_stands, shown_set, is_open_same, not_open}
@@ -37,7 +36,7 @@ use Rattle.local_files.specs.Opens.{opening as opening_file}
 use Rattle.local_files.specs.Cuts.{cutting}
 use Rattle.local_files.proofs.Freeing.{goes_from}
 use Rattle.local_files.proofs.CutWrites.{cutting_goes}
-use Rattle.local_files.proofs.Standing.{at_base}
+use Rattle.local_files.proofs.Standing.{at_base, in_hand}
 use Rattle.local_files.specs.declared.Phase.TheVariants.{Wants}
 use Rattle.local_files.specs.declared.Purpose.TheVariants.{Search}
 
@@ -154,8 +153,7 @@ pub found_goes : (e e' : Files) (d k : ℕ) (header : Header) (entry : Entry) (n
     → entry ≡ slice_index_or (dir_of read).entries k void_entry → Stands e base disk → read ≡ block_in disk d
     → GoesTo e'.phase e.call (call_bytes e) e e' base disk
 found_goes e e' d k header entry name base disk read phase counts new named below this is s honest =
-    let H : Phase → Type 0 = λ p. InHand p e base disk in
-    let hand : IsSearch e d base disk = subst H phase s.hand in
+    let hand : IsSearch e d base disk = in_hand phase s in
     let P : List ℕ → Type 0 = λ x. GoesTo e'.phase e.call (call_bytes e) e e' base x in
     let Q : Files → Type 0 = λ x. GoesTo x.phase e.call (call_bytes e) e x base base in
     subst P (sym hand.same) (subst Q (sym new) (by_call e.call refl hand))

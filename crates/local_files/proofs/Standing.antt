@@ -1,7 +1,11 @@
--- What the engine has of a disk, once a part of it is another.
-use Rattle.std.proofs.Common.{◌≡◌, ℕ, List, length, refl, Option}
+-- What the engine has of a disk, once a part of it is another, and while a block is wanted.
+use Rattle.std.proofs.Common.{◌≡◌, ℕ, List, length, refl, subst, Option}
 use Rattle.local_files.specs.declared.OpenFile.{OpenFile}
-use Rattle.local_files.specs.Standing.{AreOpenOn, HasDisk}
+use Rattle.local_files.specs.declared.Files.{Files}
+use Rattle.local_files.specs.declared.Phase.{Phase}
+use Rattle.local_files.specs.declared.Phase.TheVariants.{Wants}
+use Rattle.local_files.specs.declared.Purpose.{Purpose}
+use Rattle.local_files.specs.Standing.{AreOpenOn, HasDisk, Stands, IsWanted, InHand}
 
 -- the disk is as it was when the call began
 abbrev pub at_base : {n : ℕ} {devices : List (Option OpenFile)} {out bytes base disk : List ℕ} → HasDisk n devices out bytes base disk → HasDisk n devices out bytes base base
@@ -26,3 +30,8 @@ with_buffer h long = record { opened = h.opened; whole = h.whole; outgoing = h.o
 abbrev pub on_made : {n : ℕ} {devices after : List (Option OpenFile)} {out bytes base disk made : List ℕ} → HasDisk n devices out bytes base disk
     → AreOpenOn n after made → HasDisk n after out bytes made made
 on_made h files = record { opened = files; whole = refl; outgoing = h.outgoing; buffer = h.buffer }
+
+-- what is so while a block is wanted
+pub in_hand : {e : Files} {base disk : List ℕ} {purpose : Purpose} → e.phase ≡ Wants purpose → Stands e base disk
+    → IsWanted purpose e base disk
+in_hand {e} {base} {disk} phase s = let H : Phase → Type 0 = λ p. InHand p e base disk in subst H phase s.hand

@@ -11,11 +11,10 @@ use Rattle.file_laws.proofs.Named.{length_entries}
 use Rattle.file_laws.proofs.Counted.{entry_small}
 use Rattle.local_files.specs.declared.OpenFile.{OpenFile}
 use Rattle.local_files.specs.declared.Files.{Files}
-use Rattle.local_files.specs.declared.Phase.{Phase}
 use Rattle.local_files.specs.Hands.{IsDevice, IsOpenOn, IsReading, IsWalking, read_count, AreApart}
 use Rattle.local_files.specs.Steps.{device_at, answered, at_byte, device_of, with_device}
 use Rattle.local_files.specs.Wanted.{going_on}
-use Rattle.local_files.specs.Standing.{Stands, InHand, GoesTo, call_bytes, given_bytes, IsStanding}
+use Rattle.local_files.specs.Standing.{Stands, GoesTo, call_bytes, given_bytes, IsStanding}
 use Rattle.lfs_format.specs.Directory.{void_entry}
 use Rattle.lfs_format.specs.declared.Index.{Index}
 use Rattle.lfs_format.specs.Indexes.{index_at}
@@ -35,7 +34,7 @@ use Rattle.std.proofs.lemmas.Bool.{cases_lt}
 use Rattle.local_files.specs.declared.FileCall.{FileCall}
 use Rattle.local_files.specs.declared.FileCall.TheVariants.{Open, Delete, Close, Read, Write, Getc, Putc, Seek, Truncate, Size}
 use Rattle.local_files.proofs.Devices.{set_stands, some_below, apart_moved}
-use Rattle.local_files.proofs.Standing.{at_base}
+use Rattle.local_files.proofs.Standing.{at_base, in_hand}
 use Rattle.local_files.specs.declared.Phase.TheVariants.{Wants}
 use Rattle.local_files.specs.declared.Purpose.TheVariants.{Walk, Fetch}
 
@@ -158,7 +157,7 @@ walked_goes e e' rest at base disk read phase new s honest =
     subst P (sym new) (subst D (sym w.same) (by_rest rest refl))
   where
     w : IsWalking e rest at base disk
-    w = let H : Phase → Type 0 = λ p. InHand p e base disk in subst H phase s.hand
+    w = in_hand phase s
 
     r : IsReading e base
     r = w.reading
