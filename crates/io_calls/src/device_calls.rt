@@ -1,4 +1,4 @@
-//! The calls on devices, 36 to 43: each goes to the device that its first argument names, if that offers it (book, chapter 14, `open.c`,
+//! The calls on devices: each goes to the device that its first argument names, if that offers it (book, chapter 14, `open.c`,
 //! `close.c`, `read.c`, `write.c`, `getc.c`, `putc.c`, `seek.c`, `control.c`).
 //!
 //! Each begins as the row of its number in the abstract machine's table, or takes effect as it is made, if it is on files.

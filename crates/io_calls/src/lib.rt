@@ -2,7 +2,7 @@
 //!
 //! | Calls | File |
 //! |---|---|
-//! | 36 to 43, by the device | `device_calls.rt` |
+//! | those on a device, by what it is | `device_calls.rt` |
 //! | `open`: an answer, or a call on files | `open_calls.rt` |
 //! | `getc` and `read` of the console, and what is left of them | `console_reads.rt` |
 //! | `putc` and `write` of the console, and what is left of them | `console_writes.rt` |
