@@ -5,7 +5,7 @@ use Rattle.std.specs.Prelude.{if◌then◌else◌}
 use Rattle.std.proofs.lemmas.Bool.{cond-true, eq-eqb, ne_eqb}
 use Rattle.reference_check.specs.Leaving.{NoneMade}
 use Rattle.reference_check.specs.Steps.{asked_with, call_made, call_result, called_with, done_told, ends_at_once, reacted_with}
-use Rattle.reference_check.proofs.Made.{continued_none}
+use Rattle.reference_check.proofs.Made.{continued_none, none_if_same}
 use Rattle.reference_check.specs.Bounds.{IsWithin}
 use Rattle.transcript_laws.specs.Choices.{says_done, step_told}
 use Rattle.xinu_base.specs.declared.lines.TranscriptLine.{TranscriptLine}
@@ -14,7 +14,7 @@ use Rattle.xinu_base.specs.declared.processes.Rest.TheVariants.{Nothing}
 use Rattle.xinu_base.specs.declared.registers.Outcome.{Outcome}
 use Rattle.xinu_base.specs.declared.registers.Outcome.TheVariants as outcome
 use Rattle.part_laws.specs.Preserve.{MayCallAny}
-use Rattle.xinu_laws.proofs.FileSyscalls.Chosen.{exit_none, none_if_same}
+use Rattle.xinu_laws.proofs.FileSyscalls.Chosen.{exit_none}
 use Rattle.xinu_laws.proofs.Preserve.Calls.{called_keeps, sound_where_called}
 use Rattle.xinu_laws.proofs.Preserve.Events.{may_call, may_call_after}
 use Rattle.xinu_model.specs.Calls.{continued}

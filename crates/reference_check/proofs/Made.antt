@@ -1,16 +1,21 @@
 -- Which calls make a call on files: none but those on devices, and those only as they ask for it.
-use Rattle.std.proofs.Common.{◌≡◌, ◌≢◌, ◌∙◌, ℕ, List, Some, refl}
+use Rattle.std.proofs.Common.{◌≡◌, ◌≢◌, ◌∙◌, ℕ, List, Some, refl, ap}
 use Rattle.reference_check.specs.Leaving.{NoneMade}
 use Rattle.xinu_base.specs.Syscalls.{family_of}
 use Rattle.xinu_base.specs.declared.processes.Rest.{Rest}
 use Rattle.xinu_base.specs.declared.syscalls.Family.TheVariants.{Devices}
-use Rattle.xinu_laws.proofs.FileSyscalls.Chosen.{exit_none, kill_none, touched_files, none_if_same}
+use Rattle.xinu_laws.proofs.FileSyscalls.Chosen.{exit_none, kill_none, touched_files}
 use Rattle.xinu_laws.proofs.Rows.RowByRow.{◌⨾◌}
 use Rattle.xinu_laws.proofs.Touches.Continued.{continued_touches}
 use Rattle.xinu_laws.proofs.Touches.Few.{IsLawOfFew, law_of_few}
 use Rattle.xinu_model.specs.Calls.{calls, called, continued}
+use Rattle.xinu_model.specs.Files.Syscalls.{files_of}
 use Rattle.xinu_model.specs.Machine.{Xinu}
 use Rattle.xinu_model.specs.Sound.State.{IsSound}
+
+-- who leaves the files as they are makes none
+pub none_if_same : (s u : Xinu) → files_of u ≡ files_of s → NoneMade s u
+none_if_same s u same e = ap (λ w. w.calls) same ∙ e
 
 -- whether the number is that of no call on devices
 abbrev pub IsPlain : ℕ → Type 0

@@ -2,7 +2,7 @@
 use Rattle.std.proofs.Common.{◌≡◌, ℕ, List, None, Result, Ok, Err, refl, sym, ap, subst}
 use Rattle.std.specs.Prelude.{IfOk}
 use Rattle.reference_check.specs.Leaving.{Leaves, NoneMade}
-use Rattle.reference_check.proofs.Made.{IsPlain, plain_none}
+use Rattle.reference_check.proofs.Made.{IsPlain, none_if_same, plain_none}
 use Rattle.reference_state.specs.Answers.{came_to}
 use Rattle.reference_state.specs.declared.answers.Answer.{Answer}
 use Rattle.reference_switch.specs.Outcomes.{LeavesFiles}
@@ -14,7 +14,6 @@ use Rattle.xinu_model.specs.Calls.{called}
 use Rattle.xinu_model.specs.Machine.{CallResult, CallState, Xinu, refused}
 use Rattle.xinu_model.specs.Rows.{done_by}
 use Rattle.xinu_model.specs.Sound.State.{IsSound}
-use Rattle.xinu_laws.proofs.FileSyscalls.Chosen.{none_if_same}
 
 -- A number without a family is refused.
 pub refused_without : (number : ℕ) (args : List ℕ) (s : Xinu) → family_of number ≡ None → refused s ≡ called number args s
