@@ -24,4 +24,3 @@ pub all_drawn : (n x : ℕ) → AllByRecursion IsDrawn (events_in n x)
 unfolding events_in
 all_drawn zero x = tt
 all_drawn (suc n) x = (in_drawn x, all_drawn n (after_event x))
-

@@ -8,7 +8,9 @@ ghost use Rattle.xinu_base.specs.Names as names;
 ghost use Rattle.xinu_model.specs.Text as model;
 
 use host_port::Line;
-use xinu_base::{Call, Pid, PoolId, State, TranscriptLine, TtyMode, before_zero, call_args, call_name, is_call};
+use xinu_base::{
+    Call, Pid, PoolId, State, TranscriptLine, TtyMode, before_zero, call_args, call_name, is_call,
+};
 
 /// The text of a line, with its line feed.
 pub fn render(line: &TranscriptLine) -> Line

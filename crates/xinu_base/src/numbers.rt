@@ -52,7 +52,9 @@ impl<const N: u8> Below<N> {
         requires below { index < N }
         ensures number { result ≡ index }
     {
-        Below { number: index as u8 }
+        Below {
+            number: index as u8,
+        }
     }
 
     /// The place in the table that the number indexes.
