@@ -5,7 +5,7 @@
 //! `clock_moves.rt`.
 
 ghost use Rattle.std.specs.List.{list_all};
-ghost use Rattle.std.specs.Prelude.{◌≡◌, ◌≢◌, ◌==◌, ◌↔◌, IsTrue, IfSome, IfNone, IfOk, drop};
+ghost use Rattle.std.specs.Prelude.{◌≡◌, ◌≢◌, ◌==◌, ◌↔◌, IsTrue, IfSome, IfNone, IfOk, drop, true};
 ghost use Rattle.xinu_model.specs.Boot.{null_tables};
 ghost use Rattle.xinu_model.specs.Process.Creation.{free_process};
 ghost use Rattle.xinu_model.specs.Tables.{is_free, message_at, process_at, state_at};
@@ -20,6 +20,7 @@ use std::marker::Model;
 use xinu_base::{NoMemory, Pid, Process, Rest, State};
 
 /// The tables. A clause sees those of the abstract machine.
+#[derive(Clone)]
 pub struct KernelTables {
     /// The ready list, the waiters of each semaphore, and the sleepers.
     pub(crate) lists: Lists,
@@ -77,6 +78,17 @@ impl KernelTables {
             slots,
             clock: Clock::new(),
         })
+    }
+
+    /// Whether other tables are equal.
+    pub fn equals(&self, other: &Self) -> bool
+        ensures equal { result ≡ true → self.now ≡ other.now }
+    {
+        self.clock.equals(&other.clock)
+            && self.procs.equals(&other.procs)
+            && self.slots.equals(&other.slots)
+            && self.sems.equals(&other.sems)
+            && self.lists.equals(&other.lists)
     }
 
     /// The current process.

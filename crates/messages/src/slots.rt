@@ -1,6 +1,6 @@
 //! The slots, in an array by process number.
 
-ghost use Rattle.std.specs.Prelude.{◌≡◌, not, is_some, replicate, slice_set, Some, None, IfOk, IfErr, if◌then◌else◌};
+ghost use Rattle.std.specs.Prelude.{◌≡◌, true, not, is_some, replicate, slice_set, Some, None, IfOk, IfErr, if◌then◌else◌};
 ghost use Rattle.messages.specs.Held.{held};
 ghost use Rattle.xinu_base.specs.Constants.{NPROC};
 
@@ -9,7 +9,7 @@ use std::marker::Model;
 use xinu_base::{NoMemory, Pid};
 
 /// The message of each process, if it holds one.
-#[derive(Drop)]
+#[derive(Clone, Drop)]
 pub struct Slots {
     // The messages, by process number.
     messages: [Option<u32>; 64],
@@ -32,6 +32,13 @@ impl Slots {
         Ok(Slots {
             messages: [None; 64],
         })
+    }
+
+    /// Whether each process holds the same message in other slots.
+    pub fn equals(&self, other: &Self) -> bool
+        ensures equal { result ≡ true → self.now ≡ other.now }
+    {
+        self.messages == other.messages
     }
 
     /// Puts a word into the slot of `p`. False, and nothing changes, if and only if the slot holds one.

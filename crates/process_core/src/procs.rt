@@ -2,7 +2,7 @@
 //!
 //! It depends on nothing else of the crate. No fact is kept of it: what fits is said of it and the lists together.
 
-ghost use Rattle.std.specs.Prelude.{◌≡◌, ◌<◌, IfOk, IfErr, drop, replicate, []};
+ghost use Rattle.std.specs.Prelude.{◌≡◌, ◌<◌, true, IfOk, IfErr, drop, replicate, []};
 ghost use Rattle.std.specs.List.{list_all};
 ghost use Rattle.process_core.specs.Fits.{Fits};
 ghost use Rattle.process_core.specs.Starts.{first_table};
@@ -11,12 +11,13 @@ ghost use Rattle.xinu_model.specs.Process.Scheduling.{is_current};
 ghost use Rattle.xinu_model.specs.Process.Calls.{is_ready};
 ghost use Rattle.xinu_model.specs.Tables.{is_free, no_process};
 
+use crate::equality::are_equal;
 use std::alloc::Global;
 use std::marker::Model;
 use xinu_base::{NoMemory, Pid, Process, QUANTUM, Rest, State};
 
 /// The entries by process number, who runs now, and for how many ticks it may go on.
-#[derive(Drop)]
+#[derive(Clone, Drop)]
 pub struct Procs {
     // The processes, by number.
     pub(crate) entries: [Process; 64],
@@ -53,6 +54,16 @@ impl Procs {
             quantum: QUANTUM,
             last: Pid::default(),
         })
+    }
+
+    /// Whether another table is equal.
+    pub fn equals(&self, other: &Self) -> bool
+        ensures equal { result ≡ true → self.now ≡ other.now }
+    {
+        self.current == other.current
+            && self.quantum == other.quantum
+            && self.last == other.last
+            && are_equal(&self.entries, &other.entries)
     }
 
     /// The current process.

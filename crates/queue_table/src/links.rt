@@ -7,7 +7,7 @@ ghost use Rattle.queue_table.specs.Entries.{next_at, prev_at, key_at};
 ghost use Rattle.queue_table.specs.Writes.{put_between, taken_out, shifted};
 
 /// An entry: which entries are after it and ahead of it, and its key.
-#[derive(Clone, Copy)]
+#[derive(Clone, Copy, PartialEq)]
 pub struct Links {
     /// The number of the entry after it.
     pub next: usize,

@@ -2,11 +2,11 @@
 //!
 //! It depends on the entries of `links`. It keeps true, as a ghost fact, that the entries are linked.
 
-ghost use Rattle.std.specs.Prelude.{◌≡◌, ◌<◌, ◌+◌, ◌*◌, ◌≤◌, ◌++◌, ◌∷◌, [], IfOk, OnOk, IfSome, IsSome, IsTrue, ◌↔◌, replicate, slice_index_or};
+ghost use Rattle.std.specs.Prelude.{◌≡◌, ◌<◌, ◌+◌, ◌*◌, ◌≤◌, ◌++◌, ◌∷◌, [], IfOk, OnOk, IfSome, IsSome, IsTrue, ◌↔◌, replicate, slice_index_or, true};
 ghost use Rattle.queue_table.specs.Entries.{lists_of, Chained, Linked, blank};
 
 use crate::links::Links;
-use std::alloc::Global;
+use std::alloc::{AllocError, Global};
 use xinu_base::NoMemory;
 
 /// Q lists of processes below P, in one array of P + 2Q entries.
@@ -25,7 +25,7 @@ impl<const P: usize, const Q: usize> QueueTable<P, Q> {
     ghost use Rattle.queue_table.specs.Table.{lists};
     ghost use Rattle.queue_table.specs.Lists.{list_at, list_of, place, first_process, first_key_of, after_in, key_in};
 
-    /// A table of empty lists. This call alone takes memory.
+    /// A table of empty lists. This call and `clone` alone take memory.
     ///
     /// # Errors
     ///
@@ -46,6 +46,14 @@ impl<const P: usize, const Q: usize> QueueTable<P, Q> {
             push(&mut entries, tail, head, i32::MIN)?;
         }
         Ok(QueueTable { entries })
+    }
+
+    /// Whether another table has the same entries.
+    #[tactic(auto, unfolding(crate::specs::Table::lists))]
+    pub fn equals(&self, other: &Self) -> bool
+        ensures equal { result ≡ true → lists self.now ≡ lists other.now }
+    {
+        self.entries.as_slice() == other.entries.as_slice()
     }
 
     /// Entry `i`.
@@ -123,6 +131,18 @@ impl<const P: usize, const Q: usize> QueueTable<P, Q> {
         ensures key { result ≡ key_in p (list_of (lists self.now) p) }
     {
         self.links(p).key
+    }
+}
+
+impl<const P: usize, const Q: usize> Clone for QueueTable<P, Q> {
+    ghost use Rattle.queue_table.specs.Table.{lists};
+
+    ghost is_clone = { λ v w. lists w ≡ lists v };
+
+    #[tactic(auto, unfolding(crate::specs::Table::lists))]
+    fn clone(&self) -> Result<Self, AllocError> {
+        let entries = Vec::from_slice(*self.entries.allocator(), &self.entries)?;
+        Ok(Self { entries })
     }
 }
 

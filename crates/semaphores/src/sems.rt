@@ -28,7 +28,7 @@ pub struct SemaphoreEntry {
 }
 
 /// The semaphores: owner and count of each, and the last number given.
-#[derive(Drop)]
+#[derive(Clone, Drop)]
 pub struct Sems {
     // The entries, by number.
     pub(crate) entries: [SemaphoreEntry; 128],
@@ -56,6 +56,13 @@ impl Sems {
         ensures counts { IfOk result (λ s. Counts (replicate 130 []) s.entries) }
     {
         Ok(Sems::of_kernel())
+    }
+
+    /// Whether another table is equal.
+    pub fn equals(&self, other: &Self) -> bool
+        ensures equal { result ≡ true → self.now ≡ other.now }
+    {
+        self.last == other.last && self.entries == other.entries
     }
 
     /// A new semaphore with this count. Its number is the first free one after the last number given, and then from 0 on. `None`, and

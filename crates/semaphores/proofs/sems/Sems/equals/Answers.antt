@@ -1,0 +1,10 @@
+use Rattle.std.proofs.Common.{◌≡◌, rules}
+use Rattle.std.proofs.lemmas.Slice.Eq.{slice_eq-Decides}
+use Rattle.semaphores.proofs.sems.Sems.equals.Goals as goal
+
+pub returns-then-eq : goal.returns-then-eq
+returns-then-eq c = record {
+  equal = λ t.
+      let same : c.self.inside.entries ≡ c.other.inside.entries = (slice_eq-Decides (λ a b. search rules) _ _ _ c.eq-then-eq.ensures).0 t in
+      search rules;
+}
