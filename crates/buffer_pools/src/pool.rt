@@ -7,7 +7,7 @@ ghost use Rattle.std.specs.Prelude.{◌≡◌, ◌+◌, ◌-◌, ◌*◌, ◌%�
 ghost use Rattle.xinu_model.specs.Memory.{may_access, ranges_meet};
 ghost use Rattle.xinu_model.specs.Pools.Buffers.{addresses, buffers, held_in, is_held, is_in, new_pool, no_pool, pool_bytes, with_free};
 
-use std::alloc::Global;
+use std::alloc::{AllocError, Global};
 use std::marker::Model;
 use xinu_base::{NoMemory, Sem};
 
@@ -68,6 +68,17 @@ impl Pool {
             semaphore: Sem::default(),
             free,
         })
+    }
+
+    /// Whether another pool has the same memory, semaphore and free buffers in the same order.
+    pub(crate) fn equals(&self, other: &Self) -> bool
+        ensures equal { result ≡ true → self.now ≡ other.now }
+    {
+        self.base == other.base
+            && self.size == other.size
+            && self.number == other.number
+            && self.semaphore == other.semaphore
+            && self.free.as_slice() == other.free.as_slice()
     }
 
     /// Makes this a pool of `number` buffers of `size` bytes, all of them free, the lowest first.
@@ -174,6 +185,22 @@ impl Pool {
         let end = self.base + self.number * (self.size + 4);
         let past = u64::from(base) + u64::from(bytes);
         bytes > 0 && self.number > 0 && base < end && u64::from(self.base) < past
+    }
+}
+
+impl Clone for Pool {
+    ghost is_clone = { λ v w. w ≡ v };
+
+    fn clone(&self) -> Result<Self, AllocError> {
+        let mut free = Vec::with_capacity(*self.free.allocator(), 2048)?;
+        free.extend_from_slice(&self.free)?;
+        Ok(Pool {
+            base: self.base,
+            size: self.size,
+            number: self.number,
+            semaphore: self.semaphore,
+            free,
+        })
     }
 }
 

@@ -13,6 +13,7 @@ use std::marker::Model;
 use xinu_base::{NoMemory, PoolId, Sem};
 
 /// The buffer pools.
+#[derive(Clone)]
 pub struct Pools {
     // A place for each pool, the made ones first.
     pools: Vec<Pool>,
@@ -43,7 +44,7 @@ impl Model for Pools {
 }
 
 impl Pools {
-    /// No pool is made. This call alone takes memory, for the lists of free buffers of all pools.
+    /// No pool is made. This call and `clone` alone take memory, for the lists of free buffers of all pools.
     ///
     /// # Errors
     ///
@@ -53,6 +54,13 @@ impl Pools {
     {
         let pools = places(alloc)?;
         Ok(Pools { pools, made: 0 })
+    }
+
+    /// Whether as many other pools are made, and each is equal.
+    pub fn equals(&self, other: &Self) -> bool
+        ensures equal { result ≡ true → self.now ≡ other.now }
+    {
+        self.made == other.made && are_equal(&self.pools[..self.made], &other.pools[..other.made])
     }
 
     /// The number of the next pool. `None` if and only if all pools are made.
@@ -200,6 +208,20 @@ impl Pools {
         let pool = &mut self.pools[i.index()];
         pool.give(a);
     }
+}
+
+// Whether each of as many pools is equal to the one at its place.
+fn are_equal(pools: &[Pool], others: &[Pool]) -> bool
+    requires many { length pools.now ≡ length others.now }
+    ensures equal { result ≡ true → pools.now ≡ others.now }
+{
+    for k in 0..pools.len() {
+        let pool = &pools[k];
+        if !pool.equals(&others[k]) {
+            return false;
+        }
+    }
+    true
 }
 
 // Places for all pools.

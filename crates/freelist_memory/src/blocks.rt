@@ -8,7 +8,7 @@ ghost use Rattle.freelist_memory.specs.Gaps.{ceiling_at, floor_at};
 ghost use Rattle.freelist_memory.specs.Searches.{AreBelow, AreShort, IsHighest, IsLowest};
 
 /// A free block: cells in a row, all free.
-#[derive(Clone, Copy)]
+#[derive(Clone, Copy, PartialEq)]
 pub(crate) struct FreeBlock {
     /// Its first cell.
     pub(crate) first: u32,

@@ -11,6 +11,7 @@ use std::marker::Model;
 use xinu_base::NoMemory;
 
 /// The heap. Its records of free blocks are outside of the machine's RAM.
+#[derive(Clone)]
 pub struct Heap {
     // The address of its first cell.
     low: u32,
@@ -40,7 +41,7 @@ impl Model for Heap {
 }
 
 impl Heap {
-    /// The heap from an address up to another, all of it free. This call alone takes memory, for at most
+    /// The heap from an address up to another, all of it free. This call and `clone` alone take memory, for at most
     /// `(high - low) / 16 + 1` records.
     ///
     /// # Errors
@@ -55,6 +56,13 @@ impl Heap {
     {
         let cells = FreeList::new(alloc, (high - low) / 8)?;
         Ok(Heap { low, cells })
+    }
+
+    /// Whether another heap begins at the same address and has the same cells free.
+    pub fn equals(&self, other: &Self) -> bool
+        ensures equal { result ≡ true → self.now ≡ other.now }
+    {
+        self.low == other.low && self.cells.equals(&other.cells)
     }
 
     /// The address that `getmem` of `n` bytes answers if it is called next.

@@ -9,7 +9,7 @@ ghost use Rattle.freelist_memory.specs.Blocks.{span_of, unless_empty};
 ghost use Rattle.freelist_memory.specs.Gaps.{Fits, IsGiven};
 
 use crate::blocks::{FreeBlock, Gap, count_of, gap_at, highest, lowest, place_of};
-use std::alloc::Global;
+use std::alloc::{AllocError, Global};
 use std::marker::Model;
 use xinu_base::NoMemory;
 
@@ -36,7 +36,7 @@ impl Model for FreeList {
 }
 
 impl FreeList {
-    /// Cells that are all free. This call alone takes memory.
+    /// Cells that are all free. This call and `clone` alone take memory.
     ///
     /// # Errors
     ///
@@ -58,6 +58,13 @@ impl FreeList {
             Ok(()) => Ok(FreeList { cells, blocks }),
             Err(_) => Err(NoMemory),
         }
+    }
+
+    /// Whether another list has as many cells, of which the same are free.
+    pub(crate) fn equals(&self, other: &Self) -> bool
+        ensures equal { result ≡ true → self.now ≡ other.now }
+    {
+        self.cells == other.cells && self.blocks.as_slice() == other.blocks.as_slice()
     }
 
     /// The first of the lowest `count` free cells in a row. `None` if and only if there are none.
@@ -155,6 +162,19 @@ impl FreeList {
         } else {
             None
         }
+    }
+}
+
+impl Clone for FreeList {
+    ghost is_clone = { λ v w. w ≡ v };
+
+    fn clone(&self) -> Result<Self, AllocError> {
+        let mut blocks = Vec::with_capacity(*self.blocks.allocator(), self.cells as usize / 2 + 1)?;
+        blocks.extend_from_slice(&self.blocks)?;
+        Ok(FreeList {
+            cells: self.cells,
+            blocks,
+        })
     }
 }
 

@@ -2,7 +2,7 @@
 //!
 //! It depends on nothing else of the crate. The lists are those of a table of queues, whose processes are the nodes here.
 
-ghost use Rattle.std.specs.Prelude.{◌≡◌, ◌<◌, ◌≤◌, ◌++◌, ◌∷◌, [], drop, replicate, length, IfOk};
+ghost use Rattle.std.specs.Prelude.{◌≡◌, ◌<◌, ◌≤◌, ◌++◌, ◌∷◌, [], drop, replicate, length, IfOk, true};
 ghost use Rattle.ports.specs.Nodes.{contents, first_of, queue_at, total, with_queue};
 ghost use Rattle.queue_table.specs.Lists.{list_at};
 ghost use Rattle.queue_table.specs.Table.{lists};
@@ -17,7 +17,7 @@ use xinu_base::{NoMemory, Port};
 const FREE: usize = 0;
 
 /// The messages of each port.
-#[derive(Drop)]
+#[derive(Clone, Drop)]
 pub struct MessageNodes {
     // The lists of the nodes.
     links: QueueTable<100, 31>,
@@ -55,6 +55,13 @@ impl MessageNodes {
             words: [0; 100],
             used: 0,
         })
+    }
+
+    /// Whether other nodes are linked the same way and have the same messages.
+    pub fn equals(&self, other: &Self) -> bool
+        ensures equal { result ≡ true → self.now ≡ other.now }
+    {
+        self.used == other.used && self.words == other.words && self.links.equals(&other.links)
     }
 
     /// How many nodes have a message.

@@ -2,7 +2,7 @@
 //!
 //! It depends on the nodes, in which the messages are.
 
-ghost use Rattle.std.specs.Prelude.{◌≡◌, ◌<◌, ◌≤◌, ◌-◌, ◌≤ℤ◌, not, pos, option_map, None, IfOk, IfSome};
+ghost use Rattle.std.specs.Prelude.{◌≡◌, ◌<◌, ◌≤◌, ◌-◌, ◌≤ℤ◌, not, pos, option_map, None, IfOk, IfSome, true};
 ghost use Rattle.std.specs.List.{find};
 ghost use Rattle.xinu_model.specs.Ports.Queues.{is_used, nodes, port_at, queued};
 ghost use Rattle.xinu_model.specs.Searches.{numbers_from};
@@ -34,6 +34,7 @@ pub struct PortEntry {
 }
 
 /// The ports by number, and the messages that wait in them.
+#[derive(Clone)]
 pub struct Ports {
     // The entries, by number.
     pub(crate) entries: [PortEntry; 30],
@@ -81,6 +82,13 @@ impl Ports {
             nodes,
             next: Port::default(),
         })
+    }
+
+    /// Whether another table is equal.
+    pub fn equals(&self, other: &Self) -> bool
+        ensures equal { result ≡ true → self.now ≡ other.now }
+    {
+        self.next == other.next && self.nodes.equals(&other.nodes) && self.entries == other.entries
     }
 
     /// The number of the port that is made next: the first that isn't in use, from the one after the last that was made, or from
