@@ -18,6 +18,7 @@ use xinu_base::{Pid, SYSERR};
 const OK: i32 = 0;
 
 /// The raw disk.
+#[derive(Clone)]
 pub struct Disk {
     blocks: Blocks,
     // The requests, each for a block that there is and with bytes in RAM.
@@ -54,6 +55,13 @@ impl Disk {
             blocks: Blocks::new(image),
             requests: Requests::new(),
         }
+    }
+
+    /// Whether another disk is equal.
+    pub fn equals(&self, other: &Self) -> bool
+        ensures equal { result ≡ true → self.now ≡ other.now }
+    {
+        self.requests.as_slice() == other.requests.as_slice() && self.blocks.equals(&other.blocks)
     }
 
     /// How many blocks there are.

@@ -14,10 +14,11 @@
 //! | `block` | `within`: there is the block | `block`, `size`: its 512 bytes |
 //! | `set_block` | `within`: there is the block | `set`: its bytes are these, and nothing else changes |
 //! | `bytes` | | `bytes`: the blocks joined |
+//! | `equals`, `clone` | | `equal`: `true` only if what a clause sees is equal; a clone is equal, and takes memory |
 //!
 //! The law [`zero_bytes_are_empty_blocks`] says what a disk has on which nothing was written.
 //!
-//! The blocks are one run of bytes, which the image brings along, and the requests are part of the value: no call takes memory. Who
+//! The blocks are one run of bytes, which the image brings along, and the requests are part of the value: no call but `clone` takes memory. Who
 //! waits for the disk, and where the bytes go, is the business of the crates above. The crate depends on `xinu_model`, on
 //! `lfs_layout`, which has the image, and on `table_laws` for lemmas on lists; the list of requests is the kit's `arrayvec`.
 #![tactic(auto)]

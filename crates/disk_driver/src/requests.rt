@@ -8,7 +8,7 @@ use arrayvec::ArrayVec;
 use xinu_base::Pid;
 
 /// A request for a block.
-#[derive(Clone, Copy, Default)]
+#[derive(Clone, Copy, Default, PartialEq)]
 pub struct Request {
     /// Who waits for it; `None` once that was killed.
     pub caller: Option<Pid>,

@@ -8,7 +8,7 @@ use lfs_layout::RawImage;
 use std::marker::Model;
 
 /// Blocks of 512 bytes each, 8 to 65,536 of them.
-#[derive(Drop)]
+#[derive(Clone, Drop)]
 pub(crate) struct Blocks {
     bytes: Vec<u8>,
 }
@@ -32,6 +32,13 @@ impl Blocks {
         Blocks {
             bytes: image.into_bytes(),
         }
+    }
+
+    // Whether others have the same bytes.
+    pub(crate) fn equals(&self, other: &Self) -> bool
+        ensures equal { result ≡ true → self.now ≡ other.now }
+    {
+        self.bytes.as_slice() == other.bytes.as_slice()
     }
 
     // How many there are.

@@ -1,6 +1,6 @@
 //! The mounted prefixes, and what they make of a name (book, chapter 21, `mount.c`, `nammap.c`).
 
-ghost use Rattle.std.specs.Prelude.{◌≡◌, [], IfErr, IfOk, None, Some, is_some, unwrap_or};
+ghost use Rattle.std.specs.Prelude.{◌≡◌, [], IfErr, IfOk, None, Some, is_some, true, unwrap_or};
 ghost use Rattle.name_space.specs.Mounted.{mapped_of};
 ghost use Rattle.xinu_model.specs.Names.Mapping.{map_name, replaced_once};
 ghost use Rattle.xinu_model.specs.Names.Mounting.{mounted};
@@ -25,7 +25,7 @@ const NM_MAXMAPS: u32 = 40;
 const NAMESPACE: usize = 1;
 
 /// The mounted prefixes, at most 40, in the order in which they were mounted.
-#[derive(Drop)]
+#[derive(Clone, Drop)]
 pub struct Names {
     rows: ArrayVec<Row, 40>,
 }
@@ -48,6 +48,13 @@ impl Names {
         Names {
             rows: ArrayVec::new(),
         }
+    }
+
+    /// Whether the same prefixes are mounted in another name space, in the same order.
+    pub fn equals(&self, other: &Self) -> bool
+        ensures equal { result ≡ true → self.now ≡ other.now }
+    {
+        are_equal(self.rows.as_slice(), other.rows.as_slice())
     }
 
     /// Mounts a prefix, with what takes its place in a name and the device that gets the name. `false`, and nothing changes, if and
@@ -110,4 +117,20 @@ impl Names {
         }
         Err(NoMap)
     }
+}
+
+// Whether there are as many rows here as there, each equal to the one at its place.
+fn are_equal(rows: &[Row], others: &[Row]) -> bool
+    ensures equal { result ≡ true → rows.now ≡ others.now }
+{
+    if rows.len() != others.len() {
+        return false;
+    }
+    for k in 0..rows.len() {
+        let row = &rows[k];
+        if !row.equals(&others[k]) {
+            return false;
+        }
+    }
+    true
 }

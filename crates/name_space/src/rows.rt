@@ -11,7 +11,7 @@ use arrayvec::ArrayVec;
 use xinu_base::Dev;
 
 /// A mounted prefix.
-#[derive(Drop)]
+#[derive(Clone, Drop)]
 pub(crate) struct Row {
     /// What begins a name.
     pub prefix: Text,
@@ -34,6 +34,15 @@ impl Default for Row {
 }
 
 impl Row {
+    // Whether another row is equal.
+    pub(crate) fn equals(&self, other: &Self) -> bool
+        ensures equal { result ≡ true → self.now ≡ other.now }
+    {
+        self.device == other.device
+            && self.prefix.equals(&other.prefix)
+            && self.replacement.equals(&other.replacement)
+    }
+
     // Whether the prefix begins a name.
     pub(crate) fn fits(&self, name: &[u8]) -> bool
         ensures fits { result ≡ fits_row name.now (row_of self.now) }

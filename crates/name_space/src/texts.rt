@@ -1,11 +1,11 @@
 //! The short texts of a row, each in its place.
 
-ghost use Rattle.std.specs.Prelude.{◌≡◌, ◌≤◌, [], length};
+ghost use Rattle.std.specs.Prelude.{◌≡◌, ◌≤◌, [], length, true};
 
 use std::marker::Model;
 
 /// At most 31 bytes.
-#[derive(Drop)]
+#[derive(Clone, Drop)]
 pub(crate) struct Text {
     bytes: [u8; 31],
     length: u8,
@@ -30,6 +30,13 @@ impl Text {
             bytes: [0; 31],
             length: 0,
         }
+    }
+
+    // Whether another text is equal.
+    pub(crate) fn equals(&self, other: &Self) -> bool
+        ensures equal { result ≡ true → self.now ≡ other.now }
+    {
+        self.bytes() == other.bytes()
     }
 
     // A copy of bytes.

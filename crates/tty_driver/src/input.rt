@@ -1,10 +1,11 @@
 //! What the console has received: the items that can be taken and, after them, the line that is being typed, in one ring.
 
-ghost use Rattle.std.specs.Prelude.{◌≡◌, ◌+◌, ◌<◌, ◌≤◌, [], ◌∷◌, ◌++◌, length, map, IfOk};
+ghost use Rattle.std.specs.Prelude.{◌≡◌, ◌+◌, ◌<◌, ◌≤◌, [], ◌∷◌, ◌++◌, length, map, IfOk, true};
 ghost use Rattle.xinu_base.specs.declared.console.Item.TheVariants.{Char};
 ghost use Rattle.xinu_model.specs.Console.Rows.{last_or, without_last};
 
 use crate::constants::TY_IBUFLEN;
+use crate::rings::{are_same_items, copy_of};
 use circular_buffer::HeapCircularBuffer;
 use std::alloc::{AllocError, Global};
 use std::marker::Model;
@@ -42,6 +43,13 @@ impl Input {
     {
         let ring = HeapCircularBuffer::with_capacity(alloc, TY_IBUFLEN)?;
         Ok(Input { ring, typed: 0 })
+    }
+
+    /// Whether the same was received elsewhere.
+    pub fn equals(&self, other: &Self) -> bool
+        ensures equal { result ≡ true → self.now ≡ other.now }
+    {
+        self.typed == other.typed && are_same_items(&self.ring, &other.ring)
     }
 
     /// How many items can be taken.
@@ -127,5 +135,17 @@ impl Input {
             Some(item) => item,
             None => Item::End,
         }
+    }
+}
+
+impl Clone for Input {
+    ghost is_clone = { λ v w. w ≡ v };
+
+    fn clone(&self) -> Result<Self, AllocError> {
+        let ring = copy_of(&self.ring)?;
+        Ok(Input {
+            ring,
+            typed: self.typed,
+        })
     }
 }

@@ -14,6 +14,7 @@
 //! | `control` | | `count`, `console`: `controlled`; `None`, and nothing changes, if and only if there is no such function |
 //! | `mode` | | `mode`: the mode |
 //! | `sizes` | | `sizes`: the lengths of the lists, and whether output is held; `sound`: each list has room for what it holds, and there is a line only in cooked mode (`IsSoundConsole`) |
+//! | `equals`, `clone` | | `equal`: `true` only if what a clause sees is equal; a clone is equal, and takes memory |
 //!
 //! The items and the line are one ring in which the last bytes are the line (`specs/Input`); erasing takes the last byte of the line, so it
 //! never takes a committed item. Who waits for an item or for room is the business of the crates above. The crate depends on
@@ -50,6 +51,7 @@ mod controls;
 mod echoing;
 mod input;
 mod receiving;
+mod rings;
 mod transmitting;
 mod tty;
 

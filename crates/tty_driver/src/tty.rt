@@ -1,14 +1,15 @@
 //! The console as one value, and what can be read of it.
 
-ghost use Rattle.std.specs.Prelude.{◌≡◌, ◌<◌, length, IfOk};
+ghost use Rattle.std.specs.Prelude.{◌≡◌, ◌<◌, length, IfOk, true};
 ghost use Rattle.xinu_model.specs.Console.Sound.{IsSoundConsole};
 ghost use Rattle.xinu_model.specs.Console.State.{first_console, with_next_item};
 ghost use Rattle.tty_driver.specs.Sizes.{sizes_of};
 
 use crate::constants::{TY_EBUFLEN, TY_OBUFLEN};
 use crate::input::Input;
+use crate::rings::{are_same, copy_of};
 use circular_buffer::HeapCircularBuffer;
-use std::alloc::Global;
+use std::alloc::{AllocError, Global};
 use std::marker::Model;
 use xinu_base::{Item, NoMemory, TtyMode};
 
@@ -85,6 +86,18 @@ impl Tty {
         })
     }
 
+    /// Whether another console is equal.
+    pub fn equals(&self, other: &Self) -> bool
+        ensures equal { result ≡ true → self.now ≡ other.now }
+    {
+        self.mode == other.mode
+            && self.echoes == other.echoes
+            && self.held == other.held
+            && are_same(&self.echo, &other.echo)
+            && are_same(&self.output, &other.output)
+            && self.input.equals(&other.input)
+    }
+
     /// How input is edited.
     pub fn mode(&self) -> TtyMode
         ensures mode { result ≡ self.now.mode }
@@ -112,5 +125,23 @@ impl Tty {
         ensures taken { self.old ≡ with_next_item result self.new }
     {
         self.input.take()
+    }
+}
+
+impl Clone for Tty {
+    ghost is_clone = { λ v w. w ≡ v };
+
+    fn clone(&self) -> Result<Self, AllocError> {
+        let input = self.input.clone()?;
+        let output = copy_of(&self.output)?;
+        let echo = copy_of(&self.echo)?;
+        Ok(Tty {
+            mode: self.mode,
+            echoes: self.echoes,
+            held: self.held,
+            input,
+            output,
+            echo,
+        })
     }
 }
