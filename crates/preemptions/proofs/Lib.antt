@@ -1,4 +1,5 @@
 pub mod Fewness
+pub mod FrontLemmas
 pub mod Members
 pub mod Order
 pub mod StepLemmas

@@ -56,7 +56,7 @@ fn push_step<'a>(
 }
 
 // Whether an event is a step.
-fn is_step(event: Event) -> bool
+pub(crate) fn is_step(event: Event) -> bool
     ensures step { result ≡ spec.is_step event }
 {
     match event {

@@ -9,15 +9,18 @@
 //! | [`Placements::first`] | `first`: the first placement that is still to come; `None` if and only if there is none |
 //! | [`Placements::advance`] | `next`: the first is taken off; at `NoMemory` all are still to come |
 //! | [`preempt`] | `events`: the events with a quantum's end at each of the places |
+//! | [`front`] | `parts`: a placement within so many steps changes the events up to the step that follows them, and none after it |
 //! | [`laws`] | a list is among the placements if and only if it is a placement; no two of them are equal; the first is the one with no place |
 //!
 //! A [`Placements`] is seen as the list of the placements still to come; it keeps one of them. The crate depends on `xinu_base` alone.
 #![tactic(auto)]
 
 mod events;
+mod fronts;
 pub mod laws;
 mod next;
 mod placements;
 
 pub use events::preempt;
+pub use fronts::front;
 pub use placements::Placements;
