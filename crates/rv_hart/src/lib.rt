@@ -6,6 +6,7 @@
 //! | Call | Promise |
 //! |---|---|
 //! | [`Ram::new`] | all bytes are 0; `NoMemory` is the only refusal |
+//! | `Ram::clone` | the same bytes, or out of memory |
 //! | [`Ram::read8`], `read16`, `read32` | the number in the 1, 2 or 4 bytes, the lowest first, if and only if `may_access`; else `None` |
 //! | [`Ram::write8`], `write16`, `write32` | the answer is `may_access`; if it is true, those bytes are the number's and all others stay; else nothing changes |
 //! | [`Ram::copy_in`] | `Ok` if and only if the range is in RAM; then it holds the bytes and all others stay; else nothing changes |

@@ -18,7 +18,7 @@ const SIZE: usize = RAM_SIZE as usize;
 pub struct OutOfRam;
 
 /// The machine's memory.
-#[derive(Drop)]
+#[derive(Clone, Drop)]
 pub struct Ram {
     bytes: Vec<u8>,
 }
