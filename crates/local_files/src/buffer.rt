@@ -11,7 +11,7 @@ use xinu_base::NoMemory;
 const SIZE: usize = 1_048_576;
 
 /// The bytes of a call.
-#[derive(Drop)]
+#[derive(Clone, Drop)]
 pub struct Buffer {
     bytes: Vec<u8>,
 }

@@ -5,12 +5,13 @@
 //!
 //! | Call | Condition | Promise |
 //! |---|---|---|
-//! | `new` | | `stands`: no file is open on any clean disk of so many blocks; or `NoMemory`. It takes a buffer of 1 MiB, and no other call takes memory |
+//! | `new` | | `stands`: no file is open on any clean disk of so many blocks; or `NoMemory`. It takes a buffer of 1 MiB, and no other call but `clone` takes memory |
 //! | `begin` | `idle`: no call is in hand; `call`, `bytes`: the numbers of bytes are at most 1 MiB | `goes`: the call is in hand, or it is done as the abstract machine's call is; `bound`: it has at most as many completions left as the abstract machine allows it |
 //! | `wants`, `outgoing` | | the block that is to be read, or to be written with these bytes |
 //! | `completed` | `wants`: a block is | `goes`: the call goes on, and the files stand as before it, or it is done as the abstract machine's call is, with its reply, its bytes and its files; `less`: fewer completions are left |
 //! | `answer`, `gathered` | | the reply of a call that is done, after which none is in hand; the bytes that it read |
 //! | `position`, `open_count` | | what is open |
+//! | `has_same_open`, `clone` | | `equal`: `true` only if the devices of another engine have the same open; a clone is equal, and takes memory |
 //! | [`file_name`] | | a text as a call names a file: `bare`, `name`; `none`: no file has such a name |
 //! | [`is_call`] | | whether a call can be made, as `begin` requires it: `can`, `only` |
 //! | `holds_files_at_rest` | | a law: at each moment the disk holds the files that are neither open nor named by the call in hand |
@@ -59,6 +60,7 @@ mod buffer;
 mod cutting;
 mod ending;
 mod engine;
+mod equality;
 mod growing;
 mod laws;
 mod looking;
