@@ -1,6 +1,6 @@
 //! A disk with the file engine that works on it: a call begins, and goes on at each good completion until it has its reply.
 
-ghost use Rattle.std.specs.Prelude.{◌≡◌, ◌≤◌, ◌<◌, ◌/◌, ◌+◌, ◌-◌, ◌*◌, ℕ, List, Option, Some, None, IsSome, IfOk, MatchOption, is_some, length};
+ghost use Rattle.std.specs.Prelude.{◌≡◌, ◌≤◌, ◌<◌, ◌/◌, ◌+◌, ◌-◌, ◌*◌, ℕ, List, Option, Some, None, IsSome, IfOk, MatchOption, is_some, length, true};
 ghost use Rattle.std.specs.List.{list_any};
 ghost use Rattle.file_laws.specs.StoredFiles.{stored_files};
 ghost use Rattle.file_server.specs.DiskStates.{HasFewTurns, HeldCall, Waits, IsDone, IsFirstHeld};
@@ -21,7 +21,7 @@ use crate::settled::{Written, note_write, settle};
 use lfs_check::block_at;
 use lfs_layout::CleanImage;
 use local_files::{BlockWork, FileCall, Files};
-use std::alloc::Global;
+use std::alloc::{AllocError, Global};
 use std::marker::Model;
 use xinu_base::NoMemory;
 
@@ -74,6 +74,19 @@ impl FileDisk {
             settled,
             written,
         })
+    }
+
+    // Whether another disk is equal, and no call waits for a block of either. False if one does.
+    pub(crate) fn equals(&self, other: &Self) -> bool
+        ensures equal { result ≡ true → self.now ≡ other.now }
+    {
+        self.files.blocks == other.files.blocks
+            && self.files.wants().is_none()
+            && other.files.wants().is_none()
+            && self.files.has_same_open(&other.files)
+            && self.files.gathered() == other.files.gathered()
+            && self.disk.as_slice() == other.disk.as_slice()
+            && self.settled.as_slice() == other.settled.as_slice()
     }
 
     // Begins a call: it has its reply, or it waits for a block.
@@ -154,6 +167,23 @@ impl FileDisk {
         ensures few { HasFewTurns self.now.system }
     {
         self.files.holds_files_at_rest();
+    }
+}
+
+impl Clone for FileDisk {
+    ghost is_clone = { λ v w. w ≡ v };
+
+    fn clone(&self) -> Result<Self, AllocError> {
+        let files = self.files.clone()?;
+        let disk = Vec::from_slice(*self.disk.allocator(), &self.disk)?;
+        let settled = Vec::from_slice(*self.settled.allocator(), &self.settled)?;
+        let written = self.written.clone()?;
+        Ok(FileDisk {
+            files,
+            disk,
+            settled,
+            written,
+        })
     }
 }
 

@@ -17,7 +17,7 @@ use crate::requests::{FileNote, FileNotes, FileRequest, Requests, keep};
 use crate::starting::{begin_next, bytes_of, hand_over, take_effect};
 use lfs_layout::CleanImage;
 use rv_hart::Ram;
-use std::alloc::Global;
+use std::alloc::{AllocError, Global};
 use std::marker::Model;
 use xinu_base::{FileMoment, NoMemory, Pid};
 
@@ -68,6 +68,16 @@ impl FileServer {
             requests: Requests::new(),
             turns: 0,
         })
+    }
+
+    /// Whether another server is equal, and no call is under way. False if one is.
+    pub fn equals(&self, other: &Self) -> bool
+        ensures equal { result ≡ true → self.now ≡ other.now }
+    {
+        self.requests.is_empty()
+            && other.requests.is_empty()
+            && self.turns == other.turns
+            && self.disk.equals(&other.disk)
     }
 
     /// The bytes of the disk.
@@ -180,5 +190,19 @@ impl FileServer {
         ensures holds { HoldsFiles self.now.image self.now.work }
     {
         self.disk.holds_files();
+    }
+}
+
+impl Clone for FileServer {
+    ghost is_clone = { λ v w. w ≡ v };
+
+    fn clone(&self) -> Result<Self, AllocError> {
+        let disk = self.disk.clone()?;
+        let requests = self.requests.clone()?;
+        Ok(FileServer {
+            disk,
+            requests,
+            turns: self.turns,
+        })
     }
 }
