@@ -48,7 +48,7 @@ pub struct Kernel {
     // What calls and events change.
     pub(crate) state: KernelState,
     // How the event's call went.
-    answer: Option<Next>,
+    pub(crate) answer: Option<Next>,
 }
 
 impl Drop for Kernel {

@@ -1,4 +1,5 @@
 pub mod Answered
+pub mod EqualParts
 pub mod GoingOn
 pub mod Released
 pub mod Together
