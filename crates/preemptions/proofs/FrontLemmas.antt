@@ -78,20 +78,43 @@ take_and_drop (suc n) [] = refl
 take_and_drop (suc n) (e ∷ events) = ap (λ (es : List Event). e ∷ es) (take_and_drop n events)
 
 -- a placement changes a front with more steps than those within which it is
-pub front_with_steps : (n within : ℕ) (base : List Event) → within < count_by is_step (take n base) → (most : ℕ) (places : List ℕ) → IsPlacement most within places
+front_with_steps : (n within : ℕ) (base : List Event) → within < count_by is_step (take n base) → (most : ℕ) (places : List ℕ) → IsPlacement most within places
     → preempted_at places base ≡ preempted_at places (take n base) ++ drop n base
 front_with_steps n within base few most places is =
     ap (λ (es : List Event). preempted_at places es) (sym (take_and_drop n base))
     ∙ preempted_at_front within places (take n base) (drop n base) (All-weaker (λ k. (1 ≤ k) × (k ≤ within)) (λ k. k ≤ within) (λ k i. i.1) places is.inside) few
 
-take_all_of : (events : List Event) → take (length events) events ≡ events
-take_all_of [] = refl
-take_all_of (e ∷ events) = ap (λ (es : List Event). e ∷ es) (take_all_of events)
+-- a longer front has no fewer steps
+more_steps : (m n : ℕ) (events : List Event) → m ≤ n → count_by is_step (take m events) ≤ count_by is_step (take n events)
+more_steps zero n events less = omega (arith)
+more_steps (suc m) zero events less = absurd (omega (arith, less))
+more_steps (suc m) (suc n) [] less = omega (arith)
+more_steps (suc m) (suc n) (e ∷ events) less =
+    omega (
+      arith,
+      sum_by-cons (λ (e : Event). cond (is_step e) 1 0) e (take m events),
+      sum_by-cons (λ (e : Event). cond (is_step e) 1 0) e (take n events),
+      more_steps m n events (omega (arith, less)),
+    )
 
-drop_all_of : (events : List Event) → drop (length events) events ≡ []
-drop_all_of [] = refl
-drop_all_of (e ∷ events) = drop_all_of events
+-- and so does any longer one
+pub longer_with_steps : (m n within : ℕ) (base : List Event) → within < count_by is_step (take m base) → (most : ℕ) (places : List ℕ) → m ≤ n → IsPlacement most within places
+    → preempted_at places base ≡ preempted_at places (take n base) ++ drop n base
+longer_with_steps m n within base few most places less is =
+    front_with_steps n within base (omega (arith, few, more_steps m n base less)) most places is
+
+take_all_of : (n : ℕ) (events : List Event) → length events ≤ n → take n events ≡ events
+take_all_of zero [] all = refl
+take_all_of zero (e ∷ events) all = absurd (omega (arith, all))
+take_all_of (suc n) [] all = refl
+take_all_of (suc n) (e ∷ events) all = ap (λ (es : List Event). e ∷ es) (take_all_of n events (omega (arith, all)))
+
+drop_all_of : (n : ℕ) (events : List Event) → length events ≤ n → drop n events ≡ []
+drop_all_of zero [] all = refl
+drop_all_of zero (e ∷ events) all = absurd (omega (arith, all))
+drop_all_of (suc n) [] all = refl
+drop_all_of (suc n) (e ∷ events) all = drop_all_of n events (omega (arith, all))
 
 -- all events are a front
-pub front_of_all : (base : List Event) (places : List ℕ) → preempted_at places base ≡ preempted_at places (take (length base) base) ++ drop (length base) base
-front_of_all base places = rw (take_all_of base, drop_all_of base, append-nil (preempted_at places base)) refl
+pub front_of_all : (n : ℕ) (base : List Event) (places : List ℕ) → length base ≤ n → preempted_at places base ≡ preempted_at places (take n base) ++ drop n base
+front_of_all n base places all = rw (take_all_of n base all, drop_all_of n base all, append-nil (preempted_at places base)) refl

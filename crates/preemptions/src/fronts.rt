@@ -8,10 +8,10 @@ use crate::events::is_step;
 use xinu_base::Event;
 
 /// The length of the front of these events: up to the step that follows so many steps, or all if none does. A placement within these steps
-/// changes the front alone.
+/// changes the front alone, and so it changes no event after any longer one.
 pub fn front(base: &[Event], within: u32) -> usize
     ensures inside { result ≤ length base.now }
-    ensures parts { (most : ℕ) (places : List ℕ) → IsPlacement most within places → preempted_at places base.now ≡ preempted_at places (take result base.now) ++ drop result base.now }
+    ensures parts { (n most : ℕ) (places : List ℕ) → result ≤ n → IsPlacement most within places → preempted_at places base.now ≡ preempted_at places (take n base.now) ++ drop n base.now }
 {
     let mut steps = 0;
     for i in 0..base.len() {

@@ -1,5 +1,5 @@
 -- Placements that are gone through one by one.
-use Rattle.std.proofs.Common.{◌≡◌, ◌∙◌, ℕ, ◌<◌, List, [], ◌∷◌, ◌++◌, length, map, refl, sym, ap, subst, arith, append_assoc, append-nil, length-append}
+use Rattle.std.proofs.Common.{◌≡◌, ◌∙◌, ℕ, ◌<◌, List, [], ◌∷◌, ◌++◌, length, map, take, drop, refl, sym, ap, subst, arith, append_assoc, append-nil, length-append}
 use Rattle.std.specs.List.{All, sum}
 use Rattle.std.proofs.lemmas.List.{length-map, map-append}
 use Rattle.std.proofs.lemmas.List.Elements.{All-cons, All-head, All-nil, All-push, All-tail}
@@ -74,6 +74,17 @@ pub first_is_good : (disks : Disks) (images : List Loaded) (base : List Event) (
     → UnderWay disks images base most within all left table → left ≡ places ∷ rest → IsPlacement most within places
 first_is_good disks images base most within all left rest table places so_far is =
     All-head (IsPlacement most within) places rest (subst (λ (ps : List (List ℕ)). All (IsPlacement most within) ps) is so_far.good)
+
+-- a run through the front with the first of them, and the back, is one through the base with it
+pub through_parts : (disks : Disks) (images : List Loaded) (base front back : List Event) (most within cut : ℕ) (all left rest : List (List ℕ)) (table : List Row) (places : List ℕ) (outcome : Outcome)
+    → UnderWay disks images base most within all left table → left ≡ places ∷ rest
+    → ((m : ℕ) (ps : List ℕ) → IsPlacement m within ps → preempted_at ps base ≡ preempted_at ps (take cut base) ++ drop cut base)
+    → front ≡ take cut base → back ≡ drop cut base
+    → ComesToOn disks images (preempted_at places front ++ back) outcome → ComesToOn disks images (preempted_at places base) outcome
+through_parts disks images base front back most within cut all left rest table places outcome so_far is parts front_is back_is comes =
+    let whole = parts most places (first_is_good disks images base most within all left rest table places so_far is) in
+    subst (λ (events : List Event). ComesToOn disks images events outcome)
+    (ap (λ (f : List Event). preempted_at places f ++ back) front_is ∙ ap (λ (b : List Event). preempted_at places (take cut base) ++ b) back_is ∙ sym whole) comes
 
 -- the counts stay below the number of placements
 pub counts_fit : (disks : Disks) (images : List Loaded) (base : List Event) (most within : ℕ) (all left rest : List (List ℕ)) (table : List Row) (places : List ℕ)

@@ -1,2 +1,3 @@
 pub mod Explored
+pub mod Remainders
 pub mod Runs

@@ -1,11 +1,13 @@
 //! The runs of a program with each placement of quantum ends.
 //!
 //! A run of a machine through given events has an outcome (`specs/Runs.antt`). The search goes through all placements, each by a run on copies
-//! of the disks, and `specs/Explored.antt` says that its table is that of these runs.
+//! of the disks, and `specs/Explored.antt` says that its table is that of these runs. A placement changes the front of the events alone: of
+//! placements that lead to equal machines the back is run once, if it is long (`specs/Remainders.antt`).
 //!
 //! | Call | Promise |
 //! |---|---|
 //! | [`explore`] | `explores`: there is a run for each placement, in their order, that has the outcome that is counted for it, and the table is that of these runs; after a fault, of the first of them; `cause`: the images don't boot as the fault says |
+//! | [`Progress`] | is told of each placement that was gone through; [`Silent`] says nothing |
 //! | [`laws`] | if nothing is chosen in the run of a placement, every run of it has its row, so if one row is left, its outcome |
 //!
 //! `NoMemory` is free. The crate depends on `machine`, which is booted anew for each run, on `preemptions` for the placements, on `race_tables`
@@ -13,9 +15,13 @@
 #![tactic(auto)]
 
 mod copies;
+mod known;
 pub mod laws;
+mod progress;
+mod remainders;
 mod runs;
 mod search;
 
 pub use machine::BootFault;
+pub use progress::{Progress, Silent};
 pub use search::explore;

@@ -1,14 +1,17 @@
 //! The search: all placements are gone through, each by a run.
 
-ghost use Rattle.std.specs.Prelude.{◌≡◌, ◌≤◌, [], length, map, IfErr, MatchResult};
+ghost use Rattle.std.specs.Prelude.{◌≡◌, ◌+◌, ◌++◌, ◌≤◌, ℕ, List, [], length, take, drop, map, IfErr, MatchResult};
 ghost use Rattle.std.specs.List.{All};
 ghost use Rattle.given_disks.specs.Disks.{disks_of};
 ghost use Rattle.image_loader.specs.Images.{loaded_of};
 ghost use Rattle.preemptions.specs.Placements.{IsAscending, IsPlacement, placements};
 ghost use Rattle.preemptions.specs.Preempted.{preempted_at};
+ghost use Rattle.race_runs.specs.Remainders.{IsKnown};
 ghost use Rattle.race_runs.specs.Runs.{ComesToOn, IsRefused};
 ghost use Rattle.race_runs.specs.Explored.{Explores, ExploresSome};
 
+use crate::known::Known;
+use crate::progress::Progress;
 use crate::runs::run_on;
 use image_loader::Image;
 use lfs_layout::{CleanImage, RawImage};
@@ -18,12 +21,17 @@ use race_tables::{Outcome, Row, count_run};
 use std::alloc::Global;
 use xinu_base::Event;
 
+// How many events are run after the last preemption before machines are compared: processes that it put out of step fall into step again meanwhile.
+const SETTLING: usize = 4096;
+// How many events are worth the copy and the comparison of a machine.
+const LONG: usize = 32768;
+
 /// Runs the images on these disks through the base's events with each placement of at most `most` quantum ends within its first steps, in
-/// their order, and puts the outcomes into a table that is empty before.
+/// their order, and puts the outcomes into a table that is empty before. The progress is told of each that was gone through.
 ///
 /// # Errors
 /// `Overlap` and `NoRoom` if and only if the images don't boot; `NoMemory`. The table is that of the placements so far.
-pub fn explore(
+pub fn explore<P: Progress>(
     alloc: Global,
     images: &[Image<'_>],
     disk0: &RawImage,
@@ -32,6 +40,7 @@ pub fn explore(
     most: u32,
     within: u32,
     table: &mut Vec<Row>,
+    progress: &mut P,
 ) -> Result<(), BootFault>
     requires some { 1 ≤ length images.now }
     requires few { length images.now ≤ 8 }
@@ -43,9 +52,14 @@ pub fn explore(
     ensures first { All (λ row. IsPlacement most within row.first) table.new.items }
     ensures cause { IfErr result (IsRefused (disks_of disk0.now disk1.now) (map loaded_of images.now)) }
 {
+    let cut = cut_of(base, within);
+    let (front, back) = base.split_at(cut);
+    let mut known = Vec::new(alloc);
     let mut left = Placements::new(alloc, most, within);
     while let Some(places) = left.first() {
-        let outcome = match run_placement(alloc, images, disk0, disk1, base, places) {
+        let outcome = match run_placement(
+            alloc, images, disk0, disk1, front, back, places, &mut known,
+        ) {
             Ok(outcome) => outcome,
             Err(fault) => return Err(fault),
         };
@@ -57,28 +71,46 @@ pub fn explore(
             Ok(()) => {}
             Err(_) => return Err(BootFault::NoMemory),
         }
+        progress.tell();
     }
     Ok(())
 }
 
-// Runs the images on these disks through the base's events with one placement.
+// Where the base is cut into the front, in which all preemptions come, and the back. It isn't cut if the back isn't worth a comparison.
+fn cut_of(base: &[Event], within: u32) -> usize
+    requires few { length base.now ≤ 999999994 }
+    ensures inside { result ≤ length base.now }
+    ensures parts { (most : ℕ) (places : List ℕ) → IsPlacement most within places → preempted_at places base.now ≡ preempted_at places (take result base.now) ++ drop result base.now }
+{
+    let cut = preemptions::front(base, within) + SETTLING;
+    if cut + LONG > base.len() {
+        return base.len();
+    }
+    cut
+}
+
+// Runs the images on these disks through the front with one placement, and the back.
 fn run_placement(
     alloc: Global,
     images: &[Image<'_>],
     disk0: &RawImage,
     disk1: &CleanImage,
-    base: &[Event],
+    front: &[Event],
+    back: &[Event],
     places: &[u32],
+    known: &mut Vec<Known>,
 ) -> Result<Outcome, BootFault>
     requires some { 1 ≤ length images.now }
     requires few { length images.now ≤ 8 }
-    requires base { length base.now ≤ 999999994 }
+    requires events { length front.now + length back.now ≤ 999999994 }
     requires places { length places.now ≤ 3 }
     requires ascending { IsAscending places.now }
-    ensures comes { MatchResult result (λ o. ComesToOn (disks_of disk0.now disk1.now) (map loaded_of images.now) (preempted_at places.now base.now) o) (λ fault. IsRefused (disks_of disk0.now disk1.now) (map loaded_of images.now) fault) }
+    requires known { All (λ k. IsKnown back.now k) known.old.items }
+    ensures known { All (λ k. IsKnown back.now k) known.new.items }
+    ensures comes { MatchResult result (λ o. ComesToOn (disks_of disk0.now disk1.now) (map loaded_of images.now) (preempted_at places.now front.now ++ back.now) o) (λ fault. IsRefused (disks_of disk0.now disk1.now) (map loaded_of images.now) fault) }
 {
-    let Ok(events) = preempt(alloc, base, places) else {
+    let Ok(events) = preempt(alloc, front, places) else {
         return Err(BootFault::NoMemory);
     };
-    run_on(alloc, images, disk0, disk1, events.as_slice())
+    run_on(alloc, images, disk0, disk1, events.as_slice(), back, known)
 }

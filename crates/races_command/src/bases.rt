@@ -22,6 +22,23 @@ pub struct Limits {
     pub within: u32,
 }
 
+impl Limits {
+    // How many placements there are, for the progress.
+    pub(crate) fn placements(&self) -> u64 {
+        let places = self.within as u64;
+        let pairs = places.saturating_mul(places.saturating_sub(1)) / 2;
+        let triples = pairs.saturating_mul(places.saturating_sub(2)) / 3;
+        let of_size = [1, places, pairs, triples];
+        let mut all = 0u64;
+        for size in 0..4 {
+            if size <= self.most {
+                all = all.saturating_add(of_size[size as usize]);
+            }
+        }
+        all
+    }
+}
+
 /// The events of a schedule.
 ///
 /// # Errors

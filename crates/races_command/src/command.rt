@@ -18,7 +18,7 @@ use crate::words::{Words, words_of};
 use host_port::Host;
 use image_loader::Image;
 use lfs_layout::{CleanImage, RawImage};
-use race_runs::{BootFault, explore};
+use race_runs::{BootFault, Progress, explore};
 use run_inputs::{Inputs, Refusal, fetch_run, images_of};
 use std::alloc::Global;
 use xinu_base::Event;
@@ -27,43 +27,60 @@ use xinu_base::Event;
 /// row if a file is named for it, and answers the exit status.
 ///
 /// The status is 0 if it was sent. Else it is the status with which `run` refuses these arguments and files, and its text is sent on Fault:
-/// 2 also for numbers that don't fit, with a line that says why; 3 if the host failed; 7 if memory ran out, after the table so far.
-pub fn races<H: Host>(alloc: Global, args: &[String], host: &mut H) -> u8
+/// 2 also for numbers that don't fit, with a line that says why; 3 if the host failed; 7 if memory ran out, after the table so far. The progress is
+/// told how many placements there are, and of each that was gone through.
+pub fn races<H: Host, P: Progress>(
+    alloc: Global,
+    args: &[String],
+    host: &mut H,
+    progress: &mut P,
+) -> u8
     ensures answers { spec.Answers result (map string_bytes args.now) (H.view host.old) (H.view host.new) }
 {
-    match carry_out(alloc, args, host) {
+    match carry_out(alloc, args, host, progress) {
         Ok(()) => 0,
         Err(fault) => tell(fault, host),
     }
 }
 
 // Carries the command out.
-fn carry_out<H: Host>(alloc: Global, args: &[String], host: &mut H) -> Result<(), Fault>
+fn carry_out<H: Host, P: Progress>(
+    alloc: Global,
+    args: &[String],
+    host: &mut H,
+    progress: &mut P,
+) -> Result<(), Fault>
     ensures carries { spec.Carries (asked (map string_bytes args.now)) (search.ended_by result) (H.view host.old) (H.view host.new) }
 {
     match words_of(alloc, args) {
-        Ok(Some(words)) => obey(alloc, &words, host),
+        Ok(Some(words)) => obey(alloc, &words, host, progress),
         Ok(None) => Err(Fault::Refused(Refusal::Usage)),
         Err(_) => Err(NO_MEMORY),
     }
 }
 
 // Does what is asked.
-fn obey<H: Host>(alloc: Global, words: &Words, host: &mut H) -> Result<(), Fault>
+fn obey<H: Host, P: Progress>(
+    alloc: Global,
+    words: &Words,
+    host: &mut H,
+    progress: &mut P,
+) -> Result<(), Fault>
     ensures obeys { spec.Obeys (asked_of words.now) (search.ended_by result) (H.view host.old) (H.view host.new) }
 {
     match fetch_run(alloc, words.run.as_slice(), host) {
-        Ok(inputs) => go_through(alloc, inputs, words, host),
+        Ok(inputs) => go_through(alloc, inputs, words, host, progress),
         Err(cause) => Err(Fault::Refused(cause)),
     }
 }
 
 // Goes through the placements of these inputs.
-fn go_through<H: Host>(
+fn go_through<H: Host, P: Progress>(
     alloc: Global,
     inputs: Inputs,
     words: &Words,
     host: &mut H,
+    progress: &mut P,
 ) -> Result<(), Fault>
     requires some { 1 ≤ length inputs.images.items }
     requires few { length inputs.images.items ≤ 8 }
@@ -98,11 +115,12 @@ fn go_through<H: Host>(
         limits,
         found,
         host,
+        progress,
     )
 }
 
 // Goes through the placements of images that load, and sends what is found.
-fn search<H: Host>(
+fn search<H: Host, P: Progress>(
     alloc: Global,
     images: &[Image<'_>],
     disk0: &RawImage,
@@ -111,6 +129,7 @@ fn search<H: Host>(
     limits: Limits,
     found: Option<&str>,
     host: &mut H,
+    progress: &mut P,
 ) -> Result<(), Fault>
     requires some { 1 ≤ length images.now }
     requires few { length images.now ≤ 8 }
@@ -121,8 +140,12 @@ fn search<H: Host>(
 {
     let mut table = Vec::new(alloc);
     let Limits { most, within } = limits;
-    match explore(alloc, images, disk0, disk1, base, most, within, &mut table) {
+    progress.begin(limits.placements());
+    match explore(
+        alloc, images, disk0, disk1, base, most, within, &mut table, progress,
+    ) {
         Ok(()) => {
+            progress.end();
             match send_table(alloc, table.as_slice(), most, within, true, host) {
                 Ok(()) => {}
                 Err(fault) => return Err(fault),
@@ -130,6 +153,7 @@ fn search<H: Host>(
             write_found(alloc, table.as_slice(), most, within, base, found, host)
         }
         Err(BootFault::NoMemory) => {
+            progress.end();
             let _ = send_table(alloc, table.as_slice(), most, within, false, host);
             Err(NO_MEMORY)
         }

@@ -11,6 +11,8 @@
 //! | [`schedule_of`] | `text`, `reads`: the file that is written for a row, which reads as the base's events with its first placement |
 //! | [`is_stuck`] | `stuck`: whether no process can go on by itself or by a device after the run |
 //!
+//! [`Progress`] is told how many placements there are and of each that was gone through; [`Silent`] says nothing.
+//!
 //! What the arguments ask is a definition (`asked` in `specs/Words.antt`), and so is the table as it is printed (`table_text` in
 //! `specs/Printed.antt`). `NoMemory` is free.
 #![tactic(auto)]
@@ -28,5 +30,6 @@ mod words;
 pub use bases::{Limits, events_of, judge};
 pub use command::races;
 pub use faults::Fault;
+pub use race_runs::{Progress, Silent};
 pub use reports::schedule_of;
 pub use stuck::is_stuck;

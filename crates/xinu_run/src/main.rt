@@ -11,10 +11,13 @@
 //! Each goes over the host of the program, and the first four get the arguments after their name.
 #![tactic(auto)]
 
+mod progress;
+
+use crate::progress::Terminal;
 use explain_command::explain;
 use gdb_command::debug;
 use host_port::{Host, RealHost};
-use races_command::races;
+use races_command::{Progress, races};
 use std::alloc::Global;
 use std::env;
 use std::io::{self, ErrorKind, Read, Write};
@@ -36,8 +39,20 @@ fn main(rt: HostRuntime) -> ExitCode {
     };
     let mut input = rt.stdin();
     let mut output = rt.stdout();
+    let Ok(terminal) = rt.clone() else {
+        let _ = rt.eprintln("xinu: no memory");
+        return ExitCode::from(7);
+    };
+    let mut progress = Terminal::new(terminal);
     let mut host = RealHost::new(rt);
-    let status = carry_out(alloc, args.as_slice(), &mut host, &mut input, &mut output);
+    let status = carry_out(
+        alloc,
+        args.as_slice(),
+        &mut host,
+        &mut input,
+        &mut output,
+        &mut progress,
+    );
     ExitCode::from(status)
 }
 
@@ -51,12 +66,13 @@ fn args_of<R: Env + AllocGlobal>(alloc: Global, rt: &R) -> io::Result<Vec<String
 }
 
 // Carries out the command that the first argument names.
-fn carry_out<H: Host, R: Read, W: Write>(
+fn carry_out<H: Host, R: Read, W: Write, P: Progress>(
     alloc: Global,
     args: &[String],
     host: &mut H,
     input: &mut R,
     output: &mut W,
+    progress: &mut P,
 ) -> u8 {
     let (name, rest) = match args {
         [first, rest @ ..] => (first.as_str(), rest),
@@ -65,7 +81,7 @@ fn carry_out<H: Host, R: Read, W: Write>(
     match name {
         "explain" => explain(alloc, rest, host),
         "timeline" => timeline(alloc, rest, host),
-        "races" => races(alloc, rest, host),
+        "races" => races(alloc, rest, host, progress),
         "gdb" => debug(alloc, rest, host, input, output),
         _ => top(alloc, args, host),
     }

@@ -9,7 +9,7 @@ use Rattle.race_runs.proofs.runs.take_events.Goals as goal
 pub loop-event-init : goal.loop-event-init
 loop-event-init g c = record {
   running = c.requires.over;
-  few = c.requires.few;
+  counted = refl;
   so_far = so_far_start c.args.machine.now.state c.args.events.now c.args.out.now (g.H.Host.view c.args.host.now);
 }
 
@@ -20,11 +20,11 @@ loop-event-preserved g c =
     let event = get_or all l.event-index Step in
     let left = drop (l.event-index + 1) all in
     let ahead : drop l.event-index all ≡ event ∷ left = rw (add-one, drop-cons all l.event-index Step c.loop-event-test.true) refl in
-    let few = l.invariant.few in
+    let so_many = l.invariant.counted in
     let counted = c.event.ensures.counted in
     record {
       running = c.in-Goes.ensures.over;
-      few = omega (arith, few, counted, length-drop l.event-index all, length-drop (l.event-index + 1) all, c.loop-event-test.true);
+      counted = omega (arith, so_many, counted, length-drop l.event-index all, length-drop (l.event-index + 1) all, c.loop-event-test.true);
       so_far = so_far_event c.args.machine.now.state all l.machine.state event left (drop l.event-index all) c.event.new.self.state _ _ _ _ _ _
           ahead l.invariant.so_far c.event.ensures.happens (sym c.in-Goes.ensures.goes);
     }
@@ -39,6 +39,7 @@ returns-in-Done g c =
     record {
       prints = so_far_ended c.args.machine.now.state all l.machine.state event left (drop l.event-index all) c.event.new.self.state _ _ _ _ _ _ _
           ahead l.invariant.so_far c.event.ensures.happens (sym c.in-Done.ensures.goes);
+      more = record { running = λ e. absurd (cc); counted = λ e. absurd (cc) };
     }
 
 pub returns-in-Panic : goal.returns-in-Panic
@@ -51,6 +52,7 @@ returns-in-Panic g c =
     record {
       prints = so_far_ended c.args.machine.now.state all l.machine.state event left (drop l.event-index all) c.event.new.self.state _ _ _ _ _ _ _
           ahead l.invariant.so_far c.event.ensures.happens (sym c.in-Panic.ensures.goes);
+      more = record { running = λ e. absurd (cc); counted = λ e. absurd (cc) };
     }
 
 pub returns : goal.returns
@@ -59,4 +61,8 @@ returns g c =
     let all = c.args.events.now in
     record {
       prints = so_far_end c.args.machine.now.state all l.machine.state (drop l.event-index all) _ _ _ _ (drop_all l.event-index all (omega arith)) l.invariant.so_far;
+      more = record {
+        running = λ e. l.invariant.running;
+        counted = λ e. let so_many = l.invariant.counted in omega (arith, so_many, length-drop l.event-index all);
+      };
     }

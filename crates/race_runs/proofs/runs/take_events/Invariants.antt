@@ -1,5 +1,5 @@
 -- The run so far, and that the machine takes further events.
-use Rattle.std.proofs.Common.{◌≡◌, ◌+◌, ◌≤◌, false, length, drop, List}
+use Rattle.std.proofs.Common.{◌≡◌, ◌+◌, false, length, drop, List}
 use Rattle.host_port.specs.Outside.{Outside}
 use Rattle.host_port.specs.Printing.{Printing}
 use Rattle.machine.specs.Printed.{Booted}
@@ -10,7 +10,7 @@ use Rattle.race_runs.proofs.runs.take_events.Given as goal
 -- what holds before each event
 pub record UnderWay (start : Booted) (all : List Event) (here : Booted) (left : List Event) (before after : Printing) (was is : Outside) : Type 0 where
   pub running : here.over ≡ false
-  pub few : here.events + length left ≤ 1000000000
+  pub counted : here.events + length left ≡ start.events + length all
   pub so_far : SoFar start.state all here.state left before after was is
 
 abbrev pub invariant-loop-event : goal.invariant-loop-event

@@ -1,48 +1,55 @@
 -- One placement more.
-use Rattle.std.proofs.Common.{List, ℕ, map, drop, sym, subst, arith}
+use Rattle.std.proofs.Common.{rules, List, ℕ, map, drop, sym, subst, arith}
 use Rattle.given_disks.specs.Disks.{disks_of}
 use Rattle.image_loader.specs.Images.{loaded_of}
 use Rattle.preemptions.proofs.Members.{all_placements}
 use Rattle.preemptions.specs.Placements.{IsPlacement, placements}
 use Rattle.std.specs.List.{All}
 use Rattle.race_tables.specs.Rows.{Row}
-use Rattle.race_runs.proofs.Exploring.{UnderWay, counts_fit, some-under_way, under_way-first, under_way-more, under_way-start}
+use Rattle.race_runs.proofs.Exploring.{UnderWay, counts_fit, some-under_way, through_parts, under_way-first, under_way-more, under_way-start}
 use Rattle.preemptions.proofs.Fewness.{few_placements}
 use Rattle.race_runs.proofs.search.explore.Goals as goal
 
 pub loop-places-init : goal.loop-places-init
-loop-places-init c =
+loop-places-init g c =
     let disks = disks_of c.args.disk0.now c.args.disk1.now in
     let images = map loaded_of c.args.images.now in
     let base = c.args.base.now in
     let all = placements c.args.most c.args.within in
-    subst (λ (left : List (List ℕ)). UnderWay disks images base c.args.most c.args.within all left c.args.table.now.items) (sym c.new-left.ensures.all)
-    (under_way-start disks images base c.args.most c.args.within all c.args.table.now.items c.requires.empty (all_placements c.args.most c.args.within))
+    record {
+      under_way = subst (λ (left : List (List ℕ)). UnderWay disks images base c.args.most c.args.within all left c.args.table.now.items) (sym c.new-left.ensures.all)
+          (under_way-start disks images base c.args.most c.args.within all c.args.table.now.items c.requires.empty (all_placements c.args.most c.args.within));
+      known_back = search rules;
+    }
 
 pub count_run-requires : goal.count_run-requires
-count_run-requires c =
+count_run-requires g c =
     let l = c.loop-places in
     let disks = disks_of c.args.disk0.now c.args.disk1.now in
     let images = map loaded_of c.args.images.now in
     let base = c.args.base.now in
     let all = placements c.args.most c.args.within in
-    let fits = counts_fit disks images base c.args.most c.args.within all l.left (drop 1 l.left) l.table.items c.in-Some.places.now l.invariant c.in-Some.ensures.first in
+    let fits = counts_fit disks images base c.args.most c.args.within all l.left (drop 1 l.left) l.table.items c.in-Some.places.now l.invariant.under_way c.in-Some.ensures.first in
     record { fits = omega (arith, fits, few_placements c.args.most c.args.within c.requires.most c.requires.within) }
 
 pub loop-places-preserved : goal.loop-places-preserved
-loop-places-preserved c =
+loop-places-preserved g c =
     let l = c.loop-places in
     let disks = disks_of c.args.disk0.now c.args.disk1.now in
     let images = map loaded_of c.args.images.now in
     let base = c.args.base.now in
     let all = placements c.args.most c.args.within in
     let next = c.count_run.new.table.items in
-    subst (λ (left : List (List ℕ)). UnderWay disks images base c.args.most c.args.within all left next) (sym c.in-Ok-advance.ensures.next)
-    (under_way-more disks images base c.args.most c.args.within all l.left (drop 1 l.left) l.table.items c.in-Some.places.now c.in-Ok.outcome next
-    l.invariant c.in-Some.ensures.first c.in-Ok.ensures.comes c.in-Ok-count_run.ensures.added)
+    record {
+      under_way = subst (λ (left : List (List ℕ)). UnderWay disks images base c.args.most c.args.within all left next) (sym c.in-Ok-advance.ensures.next)
+          (under_way-more disks images base c.args.most c.args.within all l.left (drop 1 l.left) l.table.items c.in-Some.places.now c.in-Ok.outcome next
+          l.invariant.under_way c.in-Some.ensures.first (through_parts disks images base _ _ c.args.most c.args.within _ all l.left (drop 1 l.left) l.table.items c.in-Some.places.now c.in-Ok.outcome
+          l.invariant.under_way c.in-Some.ensures.first c.cut_of-cut.ensures.parts c.split_at.ensures.front c.split_at.ensures.back c.in-Ok.ensures.comes) c.in-Ok-count_run.ensures.added);
+      known_back = search rules;
+    }
 
 pub returns-in-Err-advance-clause-explores : goal.returns-in-Err-advance-clause-explores
-returns-in-Err-advance-clause-explores c =
+returns-in-Err-advance-clause-explores g c =
     let l = c.loop-places in
     let disks = disks_of c.args.disk0.now c.args.disk1.now in
     let images = map loaded_of c.args.images.now in
@@ -51,10 +58,11 @@ returns-in-Err-advance-clause-explores c =
     let next = c.count_run.new.table.items in
     some-under_way disks images base c.args.most c.args.within all (drop 1 l.left) next
     (under_way-more disks images base c.args.most c.args.within all l.left (drop 1 l.left) l.table.items c.in-Some.places.now c.in-Ok.outcome next
-    l.invariant c.in-Some.ensures.first c.in-Ok.ensures.comes c.in-Ok-count_run.ensures.added)
+    l.invariant.under_way c.in-Some.ensures.first (through_parts disks images base _ _ c.args.most c.args.within _ all l.left (drop 1 l.left) l.table.items c.in-Some.places.now c.in-Ok.outcome
+    l.invariant.under_way c.in-Some.ensures.first c.cut_of-cut.ensures.parts c.split_at.ensures.front c.split_at.ensures.back c.in-Ok.ensures.comes) c.in-Ok-count_run.ensures.added)
 
 pub returns-in-Err-advance-clause-first : goal.returns-in-Err-advance-clause-first
-returns-in-Err-advance-clause-first c =
+returns-in-Err-advance-clause-first g c =
     let l = c.loop-places in
     let disks = disks_of c.args.disk0.now c.args.disk1.now in
     let images = map loaded_of c.args.images.now in
@@ -63,29 +71,30 @@ returns-in-Err-advance-clause-first c =
     let next = c.count_run.new.table.items in
     under_way-first disks images base c.args.most c.args.within (drop 1 l.left) next
     (under_way-more disks images base c.args.most c.args.within all l.left (drop 1 l.left) l.table.items c.in-Some.places.now c.in-Ok.outcome next
-    l.invariant c.in-Some.ensures.first c.in-Ok.ensures.comes c.in-Ok-count_run.ensures.added)
+    l.invariant.under_way c.in-Some.ensures.first (through_parts disks images base _ _ c.args.most c.args.within _ all l.left (drop 1 l.left) l.table.items c.in-Some.places.now c.in-Ok.outcome
+    l.invariant.under_way c.in-Some.ensures.first c.cut_of-cut.ensures.parts c.split_at.ensures.front c.split_at.ensures.back c.in-Ok.ensures.comes) c.in-Ok-count_run.ensures.added)
 
 pub returns-in-Err-clause-first : goal.returns-in-Err-clause-first
-returns-in-Err-clause-first c =
+returns-in-Err-clause-first g c =
     let l = c.loop-places in
     let disks = disks_of c.args.disk0.now c.args.disk1.now in
     let images = map loaded_of c.args.images.now in
     let base = c.args.base.now in
-    under_way-first disks images base c.args.most c.args.within l.left l.table.items l.invariant
+    under_way-first disks images base c.args.most c.args.within l.left l.table.items l.invariant.under_way
 
 pub returns-in-Err-count_run-clause-first : goal.returns-in-Err-count_run-clause-first
-returns-in-Err-count_run-clause-first c =
+returns-in-Err-count_run-clause-first g c =
     let l = c.loop-places in
     let disks = disks_of c.args.disk0.now c.args.disk1.now in
     let images = map loaded_of c.args.images.now in
     let base = c.args.base.now in
     subst (λ (table : List Row). All (λ row. IsPlacement c.args.most c.args.within row.first) table) (sym c.in-Err-count_run.ensures.kept)
-    (under_way-first disks images base c.args.most c.args.within l.left l.table.items l.invariant)
+    (under_way-first disks images base c.args.most c.args.within l.left l.table.items l.invariant.under_way)
 
 pub returns-clause-first : goal.returns-clause-first
-returns-clause-first c =
+returns-clause-first g c =
     let l = c.loop-places in
     let disks = disks_of c.args.disk0.now c.args.disk1.now in
     let images = map loaded_of c.args.images.now in
     let base = c.args.base.now in
-    under_way-first disks images base c.args.most c.args.within l.left l.table.items l.invariant
+    under_way-first disks images base c.args.most c.args.within l.left l.table.items l.invariant.under_way

@@ -6,6 +6,6 @@ use Rattle.xinu_base.specs.declared.events.Event.{Event}
 
 pub run_on-requires-clause-events : goal.run_on-requires-clause-events
 run_on-requires-clause-events c =
-    let same : c.as_slice.result.now ≡ preempted_at c.args.places.now c.args.base.now = c.as_slice.ensures.value ∙ c.in-Ok.ensures.events in
-    let size : length c.as_slice.result.now ≡ length (preempted_at c.args.places.now c.args.base.now) = ap (λ (events : List Event). length events) same in
-    omega (arith, size, longer_by_places c.args.places.now c.args.base.now, c.requires.base, c.requires.places)
+    let same : c.as_slice.result.now ≡ preempted_at c.args.places.now c.args.front.now = c.as_slice.ensures.value ∙ c.in-Ok.ensures.events in
+    let size : length c.as_slice.result.now ≡ length (preempted_at c.args.places.now c.args.front.now) = ap (λ (events : List Event). length events) same in
+    omega (arith, size, longer_by_places c.args.places.now c.args.front.now, c.requires.events, c.requires.places)
