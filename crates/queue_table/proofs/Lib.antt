@@ -10,6 +10,7 @@ pub mod Keys
 pub mod Fresh
 pub mod Tables
 pub mod Walks
+pub mod Agreement
 pub mod Linked
 pub mod DeltaTables
 pub mod Laws

@@ -48,6 +48,14 @@ abbrev pub rest_of : List Entry → List Entry
 rest_of [] = []
 rest_of (e ∷ l) = l
 
+-- the processes of the list, in its order
+abbrev pub numbers : List Entry → List ℕ
+numbers l = map (λ e. e.0) l
+
+-- the list as it is compared with another one: with its keys, or without them
+abbrev pub compared : Bool → List Entry → List Entry
+compared with_keys l = map (λ e. (e.0, cond with_keys e.1 (pos 0))) l
+
 -- the process right after p in the list
 abbrev pub after_in : ℕ → List Entry → Option ℕ
 after_in p [] = None

@@ -17,7 +17,8 @@
 //! | `lower_first` | `due`: there is a first key, at least 1 | each delay of the list is less by 1 |
 //! | `first`, `first_key`, `is_empty`, `place_of`, `next_after`, `key_of` | p below P, q below Q | what their names say of the list |
 //! | `links` | | the entry of the array |
-//! | `equals`, `clone` | | `equal`: `true` only if the lists are equal; a clone has equal lists, and takes memory |
+//! | `has_same_list`, `has_same_processes` | q below Q | `same`: whether the list of q is the same in another table, with its keys or without |
+//! | `clone` | | a copy has the same lists, and takes memory |
 //!
 //! After each call the entries are *linked* (clause `linked`): followed from a queue's head they give exactly its list of processes and keys,
 //! followed back from its tail the same list reversed, and no process is met in two lists. The table keeps this as a ghost fact.
@@ -45,6 +46,7 @@
 //!     }
 #![tactic(auto)]
 
+mod comparing;
 mod delays;
 mod links;
 mod order;

@@ -2,7 +2,7 @@
 //!
 //! It depends on the entries of `links`. It keeps true, as a ghost fact, that the entries are linked.
 
-ghost use Rattle.std.specs.Prelude.{◌≡◌, ◌<◌, ◌+◌, ◌*◌, ◌≤◌, ◌++◌, ◌∷◌, [], IfOk, OnOk, IfSome, IsSome, IsTrue, ◌↔◌, replicate, slice_index_or, true};
+ghost use Rattle.std.specs.Prelude.{◌≡◌, ◌<◌, ◌+◌, ◌*◌, ◌≤◌, ◌++◌, ◌∷◌, [], IfOk, OnOk, IfSome, IsSome, IsTrue, ◌↔◌, replicate, slice_index_or};
 ghost use Rattle.queue_table.specs.Entries.{lists_of, Chained, Linked, blank};
 
 use crate::links::Links;
@@ -46,14 +46,6 @@ impl<const P: usize, const Q: usize> QueueTable<P, Q> {
             push(&mut entries, tail, head, i32::MIN)?;
         }
         Ok(QueueTable { entries })
-    }
-
-    /// Whether another table has the same entries.
-    #[tactic(auto, unfolding(crate::specs::Table::lists))]
-    pub fn equals(&self, other: &Self) -> bool
-        ensures equal { result ≡ true → lists self.now ≡ lists other.now }
-    {
-        self.entries.as_slice() == other.entries.as_slice()
     }
 
     /// Entry `i`.
