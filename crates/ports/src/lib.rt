@@ -17,7 +17,7 @@
 //! | `send` | | `answer`: `Stale` if and only if the ticket is; else `Full` if and only if a hundred messages are in all ports; else the semaphore of the receivers; `ports`: the message is last, or nothing changes |
 //! | `receive` | | `answer`: the first message and the semaphore of the senders, `None` if and only if the ticket is stale or there is no message; `ports`: it is taken, or nothing changes; `signed`: the first count of its port is at most 2147483647 |
 //! | `head_of`, `seq_of`, `messages_of`, `nodes` | | first count and semaphores; the sequence number; the messages in order; how many messages all ports hold |
-//! | `equals`, `clone` | | `equal`: `true` only if what a clause sees is equal; a clone is equal, and takes memory |
+//! | `equals`, `clone` | | `equal`: whether what a clause sees is equal; a clone is equal, and takes memory |
 //!
 //! The crate depends on `queue_table`, and on `process_core` for the laws of its search.
 #![tactic(auto)]

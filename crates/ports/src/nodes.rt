@@ -2,7 +2,7 @@
 //!
 //! It depends on nothing else of the crate. The lists are those of a table of queues, whose processes are the nodes here.
 
-ghost use Rattle.std.specs.Prelude.{◌≡◌, ◌<◌, ◌≤◌, ◌++◌, ◌∷◌, [], drop, replicate, length, IfOk, true};
+ghost use Rattle.std.specs.Prelude.{◌≡◌, ◌<◌, ◌≤◌, ◌++◌, ◌∷◌, ◌↔◌, [], drop, replicate, length, IfOk, IsTrue};
 ghost use Rattle.ports.specs.Nodes.{contents, first_of, queue_at, total, with_queue};
 ghost use Rattle.queue_table.specs.Lists.{list_at};
 ghost use Rattle.queue_table.specs.Table.{lists};
@@ -57,11 +57,26 @@ impl MessageNodes {
         })
     }
 
-    /// Whether other nodes are linked the same way and have the same messages.
+    /// Whether each port has the same messages in other nodes, whichever nodes they are in.
     pub fn equals(&self, other: &Self) -> bool
-        ensures equal { result ≡ true → self.now ≡ other.now }
+        ensures equal { IsTrue result ↔ (self.now ≡ other.now) }
     {
-        self.used == other.used && self.words == other.words && self.links.equals(&other.links)
+        if self.used != other.used {
+            return false;
+        }
+        for q in 0..30 {
+            if !self.has_same_messages(other, Port::at(q)) {
+                return false;
+            }
+        }
+        true
+    }
+
+    // Whether a port has the same messages in other nodes.
+    fn has_same_messages(&self, other: &Self, port: Port) -> bool
+        ensures same { IsTrue result ↔ (queue_at self.now port ≡ queue_at other.now port) }
+    {
+        self.messages(port).as_slice() == other.messages(port).as_slice()
     }
 
     /// How many nodes have a message.

@@ -2,7 +2,7 @@
 //!
 //! It depends on the nodes, in which the messages are.
 
-ghost use Rattle.std.specs.Prelude.{◌≡◌, ◌<◌, ◌≤◌, ◌-◌, ◌≤ℤ◌, not, pos, option_map, None, IfOk, IfSome, true};
+ghost use Rattle.std.specs.Prelude.{◌≡◌, ◌<◌, ◌≤◌, ◌-◌, ◌≤ℤ◌, ◌↔◌, not, pos, option_map, None, IfOk, IfSome, IsTrue};
 ghost use Rattle.std.specs.List.{find};
 ghost use Rattle.xinu_model.specs.Ports.Queues.{is_used, nodes, port_at, queued};
 ghost use Rattle.xinu_model.specs.Searches.{numbers_from};
@@ -86,7 +86,7 @@ impl Ports {
 
     /// Whether another table is equal.
     pub fn equals(&self, other: &Self) -> bool
-        ensures equal { result ≡ true → self.now ≡ other.now }
+        ensures equal { IsTrue result ↔ (self.now ≡ other.now) }
     {
         self.next == other.next && self.nodes.equals(&other.nodes) && self.entries == other.entries
     }

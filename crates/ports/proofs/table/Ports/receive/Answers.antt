@@ -1,4 +1,4 @@
-use Rattle.std.proofs.Common.{◌≡◌, ◌∙◌, ◌==◌, pos, ◌≤ℤ◌, arith, rules, w32}
+use Rattle.std.proofs.Common.{◌==◌, pos, ◌≤ℤ◌, arith, rules, w32}
 use Rattle.std.proofs.lemmas.Int.{ints}
 use mir.Val.{SFits}
 use Rattle.xinu_model.specs.Ports.Queues.{port_at}
