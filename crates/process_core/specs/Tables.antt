@@ -1,6 +1,7 @@
 -- The kernel's tables, read off the lists of a queue table, the process table, and what is beside them.
 use Rattle.std.specs.Prelude.{ℕ, ◌+◌, List, [], ◌∷◌, map, slice_index_or, slice_set, take, Option, ℤ, pos, negsuc}
 use Rattle.queue_table.specs.Lists.{Entry, list_at, delays}
+pub use Rattle.queue_table.specs.Lists.{numbers}
 use Rattle.xinu_base.specs.declared.processes.Process.{Process}
 use Rattle.xinu_base.specs.declared.processes.State.{State}
 use Rattle.xinu_base.specs.declared.semaphores.Owner.{Owner}
@@ -41,10 +42,6 @@ with_state p state s = with_process p (in_state state (process_in s.processes p)
 -- process p holds another message, or none
 abbrev pub with_message : ℕ → Option ℕ → Beside → Beside
 with_message p message b = record b { messages = slice_set b.messages p message }
-
--- the processes of a list, in its order
-abbrev pub numbers : List Entry → List ℕ
-numbers l = map (λ e. e.0) l
 
 -- a semaphore whose waiters are those of a list
 abbrev pub semaphore_of : List Entry → Mark → Semaphore

@@ -28,13 +28,12 @@ pub returns-then-equals : goal.returns-then-equals
 returns-then-equals c =
     let a = c.self.inside in
     let b = c.other.inside in
-    let decides = slice_eq-Decides (λ a b. search rules) _ _ _ c.eq-then-equals.ensures in
     record {
       equal = (
         λ t.
-            let same : c.self.inside.entries ≡ c.other.inside.entries = decides.0 t in
+            let same : c.self.inside.entries ≡ c.other.inside.entries = (slice_eq-Decides (λ a b. search rules) _ _ _ c.eq-then-equals.ensures).0 t in
             search rules,
-        λ e. decides.1 (same_entries a.entries b.entries a.nodes b.nodes c.self.invariant c.other.invariant
+        λ e. (slice_eq-Decides (λ a b. search rules) _ _ _ c.eq-then-equals.ensures).1 (same_entries a.entries b.entries a.nodes b.nodes c.self.invariant c.other.invariant
             (ap (λ (t : PortTable). t.ports) (c.self.view_is ∙ e ∙ sym c.other.view_is))),
       );
     }
