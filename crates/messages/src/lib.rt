@@ -10,7 +10,7 @@
 //! | `take` | `takes`: what the process held, `None` if and only if it held nothing; `slots`: its slot is empty |
 //! | `peek` | `holds`: what it holds |
 //! | `clear` | `slots`: its slot is empty |
-//! | `equals`, `clone` | `equal`: `true` only if what a clause sees is equal; a clone is equal |
+//! | `equals`, `clone` | `equal`: `true` if and only if what a clause sees is equal; a clone is equal |
 //!
 //! No call has a condition. The crate depends on `xinu_base`.
 #![tactic(auto)]

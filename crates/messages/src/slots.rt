@@ -1,6 +1,6 @@
 //! The slots, in an array by process number.
 
-ghost use Rattle.std.specs.Prelude.{◌≡◌, true, not, is_some, replicate, slice_set, Some, None, IfOk, IfErr, if◌then◌else◌};
+ghost use Rattle.std.specs.Prelude.{◌≡◌, ◌↔◌, IsTrue, not, is_some, replicate, slice_set, Some, None, IfOk, IfErr, if◌then◌else◌};
 ghost use Rattle.messages.specs.Held.{held};
 ghost use Rattle.xinu_base.specs.Constants.{NPROC};
 
@@ -36,7 +36,7 @@ impl Slots {
 
     /// Whether each process holds the same message in other slots.
     pub fn equals(&self, other: &Self) -> bool
-        ensures equal { result ≡ true → self.now ≡ other.now }
+        ensures equal { IsTrue result ↔ (self.now ≡ other.now) }
     {
         self.messages == other.messages
     }
