@@ -3,7 +3,7 @@
 //! It depends on the lists. The sleepers are queue 129, where a key is the difference of a delay to the delay ahead of it, so that a tick
 //! lowers one key: the first.
 
-ghost use Rattle.std.specs.Prelude.{◌≡◌, ◌≢◌, ◌≤◌, ◌<◌, ◌+◌, ◌/◌, ◌∷◌, ◌≤ℤ◌, ℕ, List, [], IfNone, IfSome, IsSome, None, Some, pos, replicate, true};
+ghost use Rattle.std.specs.Prelude.{◌≡◌, ◌↔◌, IsTrue, ◌≢◌, ◌≤◌, ◌<◌, ◌+◌, ◌/◌, ◌∷◌, ◌≤ℤ◌, ℕ, List, [], IfNone, IfSome, IsSome, None, Some, pos, replicate};
 ghost use Rattle.delta_clock.specs.Wakeups.{AreOut, WakesLater, not_due};
 ghost use Rattle.process_core.specs.Fits.{Fits, MayBeIn};
 ghost use Rattle.process_core.specs.Tables.{Beside, ProcessTable, process_in, sleepers_of, tables_of, wake_tick};
@@ -44,7 +44,7 @@ impl Clock {
 
     /// Whether another clock shows the same ticks.
     pub fn equals(&self, other: &Self) -> bool
-        ensures equal { result ≡ true → self.now ≡ other.now }
+        ensures equal { IsTrue result ↔ (self.now ≡ other.now) }
     {
         self.ticks == other.ticks
     }
