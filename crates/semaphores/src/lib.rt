@@ -21,7 +21,7 @@
 //! | `release_all` | the same; `tokens`: the count isn't negative | `released`: all waiters; `reset`: they become ready in order, and the count is the new one |
 //! | `delete` | `empty`: nobody waits; `counts` | `deleted`: the machine's entry of a free number |
 //! | `forget_waiter` | `waits`: p is in the queue of a semaphore; `counts` | `forgotten`: the machine moves p out of all lists; `absent`: p is in none |
-//! | `equals`, `clone` | | `equal`: `true` only if what a clause sees is equal; a clone is equal |
+//! | `equals`, `clone` | | `equal`: `true` if and only if what a clause sees is equal; a clone is equal |
 //!
 //! `others` says which queues stay. For the crates above `proofs/Counting` has what is read off the entries (`seen_at`, `count_at`,
 //! `owner_at`). The crate depends on `process_core` and `queue_table`.

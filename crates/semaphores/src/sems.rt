@@ -2,7 +2,7 @@
 //!
 //! It depends on nothing else of the crate. A count above 0 says how many tokens there are, one below 0 how many processes wait.
 
-ghost use Rattle.std.specs.Prelude.{◌≡◌, ◌≢◌, ◌<◌, ◌≤◌, ◌-◌, ◌+ℤ◌, ◌-ℤ◌, ◌≤ℤ◌, ℕ, List, [], Option, None, IfOk, IfErr, IfSome, IfNone, Some, int_lt, pos, negsuc, false, true, not, is_some, replicate};
+ghost use Rattle.std.specs.Prelude.{◌≡◌, ◌↔◌, IsTrue, ◌≢◌, ◌<◌, ◌≤◌, ◌-◌, ◌+ℤ◌, ◌-ℤ◌, ◌≤ℤ◌, ℕ, List, [], Option, None, IfOk, IfErr, IfSome, IfNone, Some, int_lt, pos, negsuc, false, not, is_some, replicate};
 ghost use Rattle.std.specs.List.{count_by, find};
 ghost use Rattle.process_core.specs.Starts.{first_beside};
 ghost use Rattle.process_core.specs.Tables.{ProcessTable, tables_of};
@@ -60,7 +60,7 @@ impl Sems {
 
     /// Whether another table is equal.
     pub fn equals(&self, other: &Self) -> bool
-        ensures equal { result ≡ true → self.now ≡ other.now }
+        ensures equal { IsTrue result ↔ (self.now ≡ other.now) }
     {
         self.last == other.last && self.entries == other.entries
     }
