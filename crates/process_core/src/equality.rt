@@ -1,12 +1,12 @@
 //! Whether processes are equal.
 
-ghost use Rattle.std.specs.Prelude.{◌≡◌, true};
+ghost use Rattle.std.specs.Prelude.{◌≡◌, ◌↔◌, IsTrue};
 
 use xinu_base::{Process, Rest};
 
 /// Whether two tables have equal entries.
 pub(crate) fn are_equal(entries: &[Process; 64], others: &[Process; 64]) -> bool
-    ensures equal { result ≡ true → entries.now ≡ others.now }
+    ensures equal { IsTrue result ↔ (entries.now ≡ others.now) }
 {
     for p in 0..64 {
         if !is_equal(&entries[p], &others[p]) {
@@ -18,7 +18,7 @@ pub(crate) fn are_equal(entries: &[Process; 64], others: &[Process; 64]) -> bool
 
 // Whether two entries are equal.
 fn is_equal(process: &Process, other: &Process) -> bool
-    ensures equal { result ≡ true → process.now ≡ other.now }
+    ensures equal { IsTrue result ↔ (process.now ≡ other.now) }
 {
     process.state == other.state
         && process.priority == other.priority
@@ -31,7 +31,7 @@ fn is_equal(process: &Process, other: &Process) -> bool
 
 // Whether the same is left of two calls.
 fn is_same_rest(rest: &Rest, other: &Rest) -> bool
-    ensures equal { result ≡ true → rest.now ≡ other.now }
+    ensures equal { IsTrue result ↔ (rest.now ≡ other.now) }
 {
     match (rest, other) {
         (Rest::Nothing, Rest::Nothing) => true,

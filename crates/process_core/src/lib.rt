@@ -22,7 +22,7 @@
 //! | `suspend_ready` | `ready`: p is ready; `fits` | `suspended`: the machine moves it out of all lists, suspended |
 //! | `free_part` | `absent`, `fits` | `freed`: the entry is what it was at the start |
 //! | `quantum_tick` | | `falls`: true if and only if the quantum came to 0 and is renewed |
-//! | `equals`, `clone` | | `equal`: `true` only if what a clause sees is equal; a clone is equal |
+//! | `equals`, `clone` | | `equal`: `true` if and only if what a clause sees is equal; a clone is equal |
 //!
 //! Beside the equation each call says which columns change: `procs` the table, `lists` the lists, `others` the queues that stay.
 //!

@@ -2,7 +2,7 @@
 //!
 //! It depends on nothing else of the crate. No fact is kept of it: what fits is said of it and the lists together.
 
-ghost use Rattle.std.specs.Prelude.{◌≡◌, ◌<◌, true, IfOk, IfErr, drop, replicate, []};
+ghost use Rattle.std.specs.Prelude.{◌≡◌, ◌↔◌, IsTrue, ◌<◌, IfOk, IfErr, drop, replicate, []};
 ghost use Rattle.std.specs.List.{list_all};
 ghost use Rattle.process_core.specs.Fits.{Fits};
 ghost use Rattle.process_core.specs.Starts.{first_table};
@@ -58,7 +58,7 @@ impl Procs {
 
     /// Whether another table is equal.
     pub fn equals(&self, other: &Self) -> bool
-        ensures equal { result ≡ true → self.now ≡ other.now }
+        ensures equal { IsTrue result ↔ (self.now ≡ other.now) }
     {
         self.current == other.current
             && self.quantum == other.quantum
