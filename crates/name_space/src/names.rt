@@ -1,6 +1,6 @@
 //! The mounted prefixes, and what they make of a name (book, chapter 21, `mount.c`, `nammap.c`).
 
-ghost use Rattle.std.specs.Prelude.{◌≡◌, [], IfErr, IfOk, None, Some, is_some, true, unwrap_or};
+ghost use Rattle.std.specs.Prelude.{◌≡◌, ◌↔◌, IsTrue, [], IfErr, IfOk, None, Some, is_some, unwrap_or};
 ghost use Rattle.name_space.specs.Mounted.{mapped_of};
 ghost use Rattle.xinu_model.specs.Names.Mapping.{map_name, replaced_once};
 ghost use Rattle.xinu_model.specs.Names.Mounting.{mounted};
@@ -52,7 +52,7 @@ impl Names {
 
     /// Whether the same prefixes are mounted in another name space, in the same order.
     pub fn equals(&self, other: &Self) -> bool
-        ensures equal { result ≡ true → self.now ≡ other.now }
+        ensures equal { IsTrue result ↔ (self.now ≡ other.now) }
     {
         are_equal(self.rows.as_slice(), other.rows.as_slice())
     }
@@ -121,7 +121,7 @@ impl Names {
 
 // Whether there are as many rows here as there, each equal to the one at its place.
 fn are_equal(rows: &[Row], others: &[Row]) -> bool
-    ensures equal { result ≡ true → rows.now ≡ others.now }
+    ensures equal { IsTrue result ↔ (rows.now ≡ others.now) }
 {
     if rows.len() != others.len() {
         return false;

@@ -1,6 +1,6 @@
 //! A mounted prefix: whether it begins a name, and the name with its replacement (book, chapter 21, `namrepl.c`).
 
-ghost use Rattle.std.specs.Prelude.{◌≡◌, ◌++◌, length, nat_le, [], is_ok, IfErr, IfOk, None, Some, true};
+ghost use Rattle.std.specs.Prelude.{◌≡◌, ◌↔◌, IsTrue, ◌++◌, length, nat_le, [], is_ok, IfErr, IfOk, None, Some, true};
 ghost use Rattle.name_space.specs.Mounted.{mapped_of, row_of};
 ghost use Rattle.xinu_model.specs.Names.Constants.{NM_MAXLEN};
 ghost use Rattle.xinu_model.specs.Names.Mapping.{fits_row, replaced, short_enough};
@@ -36,7 +36,7 @@ impl Default for Row {
 impl Row {
     // Whether another row is equal.
     pub(crate) fn equals(&self, other: &Self) -> bool
-        ensures equal { result ≡ true → self.now ≡ other.now }
+        ensures equal { IsTrue result ↔ (self.now ≡ other.now) }
     {
         self.device == other.device
             && self.prefix.equals(&other.prefix)

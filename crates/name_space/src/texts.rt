@@ -1,6 +1,6 @@
 //! The short texts of a row, each in its place.
 
-ghost use Rattle.std.specs.Prelude.{◌≡◌, ◌≤◌, [], length, true};
+ghost use Rattle.std.specs.Prelude.{◌≡◌, ◌↔◌, IsTrue, ◌≤◌, [], length};
 
 use std::marker::Model;
 
@@ -34,7 +34,7 @@ impl Text {
 
     // Whether another text is equal.
     pub(crate) fn equals(&self, other: &Self) -> bool
-        ensures equal { result ≡ true → self.now ≡ other.now }
+        ensures equal { IsTrue result ↔ (self.now ≡ other.now) }
     {
         self.bytes() == other.bytes()
     }
