@@ -7,3 +7,4 @@ pub mod Gaps
 pub mod Puts
 pub mod Listed
 pub mod Rest
+pub mod Same

@@ -2,7 +2,7 @@
 //!
 //! It depends on the free list, whose cells it gives addresses. It keeps true that the heap lies in RAM, from a multiple of 8 on.
 
-ghost use Rattle.std.specs.Prelude.{◌≡◌, ◌+◌, ◌-◌, ◌*◌, ◌/◌, ◌%◌, ◌<◌, ◌≤◌, true, replicate, Some, None, IfOk, IfNone, IfSome, if◌then◌else◌, count_by, find, nat_le, option_map, unwrap_or};
+ghost use Rattle.std.specs.Prelude.{◌≡◌, ◌↔◌, IsTrue, ◌+◌, ◌-◌, ◌*◌, ◌/◌, ◌%◌, ◌<◌, ◌≤◌, true, replicate, Some, None, IfOk, IfNone, IfSome, if◌then◌else◌, count_by, find, nat_le, option_map, unwrap_or};
 ghost use Rattle.xinu_model.specs.Heap.Cells as heap;
 
 use crate::list::FreeList;
@@ -60,7 +60,7 @@ impl Heap {
 
     /// Whether another heap begins at the same address and has the same cells free.
     pub fn equals(&self, other: &Self) -> bool
-        ensures equal { result ≡ true → self.now ≡ other.now }
+        ensures equal { IsTrue result ↔ (self.now ≡ other.now) }
     {
         self.low == other.low && self.cells.equals(&other.cells)
     }

@@ -14,7 +14,7 @@
 //! | `freestk` | | the same of the stack whose highest word is at the address |
 //! | `free_total` | | `total`: the bytes of the cells that are free |
 //! | `block_from` | | `first`: the first of the machine's `free_blocks` at the address or above, `None` if and only if there is none; `some`, `in_ram`: it isn't empty, and is in RAM |
-//! | `equals`, `clone` | | `equal`: `true` only if what a clause sees is equal; a clone is equal, and takes memory |
+//! | `equals`, `clone` | | `equal`: `true` if and only if what a clause sees is equal; a clone is equal, and takes memory |
 //!
 //! The code keeps the free blocks alone: by place, none empty, and a taken cell between any two (`AreBlocks` in `specs/Blocks.antt`,
 //! `cells_of` what they stand for). So n cells have at most (n + 1) / 2 blocks, and the n / 2 + 1 records that `new` takes are enough:
