@@ -17,7 +17,7 @@
 //! | `free_at` | `made` | `free`: the k-th free buffer, `None` if and only if there are fewer |
 //! | `get_part` | `free`: a buffer is free | `first`: the answer was the first free one; `pools`: it isn't free, and nothing else changes; `after_word`, `word`: the word before it can be written |
 //! | `free` | | `holder`: the pool that has the held buffer, `None` if and only if no held buffer has the address; `pools`: it is the first free one, or nothing changes; `made`, `room`: the pool is made, and has fewer than 2048 free ones |
-//! | `equals`, `clone` | | `equal`: `true` only if what a clause sees is equal; a clone is equal, and takes memory |
+//! | `equals`, `clone` | | `equal`: `true` if and only if what a clause sees is equal; a clone is equal, and takes memory |
 //!
 //! A pool keeps true that its free buffers are distinct ones of its own, which with the held ones are all (`HasBuffers` in
 //! `specs/Buffers.antt`). The lists of free buffers are outside of the machine's RAM, so a process that writes into a free buffer harms

@@ -2,7 +2,7 @@
 //!
 //! It depends on a single pool. It keeps true that there is a place for each pool that can be made.
 
-ghost use Rattle.std.specs.Prelude.{◌≡◌, ◌+◌, ◌-◌, ◌%◌, ◌<◌, ◌≤◌, ◌++◌, ◌∷◌, [], true, length, drop, slice_get, slice_set, nat_lt, if◌then◌else◌, Some, None, IfOk, IfSome};
+ghost use Rattle.std.specs.Prelude.{◌≡◌, ◌↔◌, IsTrue, ◌+◌, ◌-◌, ◌%◌, ◌<◌, ◌≤◌, ◌++◌, ◌∷◌, [], true, length, drop, slice_get, slice_set, nat_lt, if◌then◌else◌, Some, None, IfOk, IfSome};
 ghost use Rattle.buffer_pools.specs.Numbers.{after_free, next_number};
 ghost use Rattle.xinu_model.specs.Memory.{may_access};
 ghost use Rattle.xinu_model.specs.Pools.Buffers.{held_in, holder, is_held, meets_pool, most_pools, new_pool, pool_at, pool_bytes};
@@ -58,7 +58,7 @@ impl Pools {
 
     /// Whether as many other pools are made, and each is equal.
     pub fn equals(&self, other: &Self) -> bool
-        ensures equal { result ≡ true → self.now ≡ other.now }
+        ensures equal { IsTrue result ↔ (self.now ≡ other.now) }
     {
         self.made == other.made && are_equal(&self.pools[..self.made], &other.pools[..other.made])
     }
@@ -213,7 +213,7 @@ impl Pools {
 // Whether each of as many pools is equal to the one at its place.
 fn are_equal(pools: &[Pool], others: &[Pool]) -> bool
     requires many { length pools.now ≡ length others.now }
-    ensures equal { result ≡ true → pools.now ≡ others.now }
+    ensures equal { IsTrue result ↔ (pools.now ≡ others.now) }
 {
     for k in 0..pools.len() {
         let pool = &pools[k];
