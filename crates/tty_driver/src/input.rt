@@ -1,6 +1,6 @@
 //! What the console has received: the items that can be taken and, after them, the line that is being typed, in one ring.
 
-ghost use Rattle.std.specs.Prelude.{◌≡◌, ◌+◌, ◌<◌, ◌≤◌, [], ◌∷◌, ◌++◌, length, map, IfOk, true};
+ghost use Rattle.std.specs.Prelude.{◌≡◌, ◌↔◌, IsTrue, ◌+◌, ◌<◌, ◌≤◌, [], ◌∷◌, ◌++◌, length, map, IfOk};
 ghost use Rattle.xinu_base.specs.declared.console.Item.TheVariants.{Char};
 ghost use Rattle.xinu_model.specs.Console.Rows.{last_or, without_last};
 
@@ -47,7 +47,7 @@ impl Input {
 
     /// Whether the same was received elsewhere.
     pub fn equals(&self, other: &Self) -> bool
-        ensures equal { result ≡ true → self.now ≡ other.now }
+        ensures equal { IsTrue result ↔ (self.now ≡ other.now) }
     {
         self.typed == other.typed && are_same_items(&self.ring, &other.ring)
     }

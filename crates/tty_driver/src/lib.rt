@@ -14,7 +14,7 @@
 //! | `control` | | `count`, `console`: `controlled`; `None`, and nothing changes, if and only if there is no such function |
 //! | `mode` | | `mode`: the mode |
 //! | `sizes` | | `sizes`: the lengths of the lists, and whether output is held; `sound`: each list has room for what it holds, and there is a line only in cooked mode (`IsSoundConsole`) |
-//! | `equals`, `clone` | | `equal`: `true` only if what a clause sees is equal; a clone is equal, and takes memory |
+//! | `equals`, `clone` | | `equal`: `true` if and only if what a clause sees is equal; a clone is equal, and takes memory |
 //!
 //! The items and the line are one ring in which the last bytes are the line (`specs/Input`); erasing takes the last byte of the line, so it
 //! never takes a committed item. Who waits for an item or for room is the business of the crates above. The crate depends on

@@ -1,6 +1,6 @@
 //! Rings: copies of them, and whether two hold the same.
 
-ghost use Rattle.std.specs.Prelude.{◌≡◌, IfOk, true};
+ghost use Rattle.std.specs.Prelude.{◌≡◌, ◌↔◌, IsTrue, IfOk};
 
 use circular_buffer::HeapCircularBuffer;
 use std::alloc::AllocError;
@@ -23,7 +23,7 @@ pub fn copy_of<T: Copy>(ring: &HeapCircularBuffer<T>) -> Result<HeapCircularBuff
 
 /// Whether two rings of bytes hold the same.
 pub fn are_same(ring: &HeapCircularBuffer<u8>, other: &HeapCircularBuffer<u8>) -> bool
-    ensures equal { result ≡ true → ring.now.items ≡ other.now.items }
+    ensures equal { IsTrue result ↔ (ring.now.items ≡ other.now.items) }
 {
     if ring.len() != other.len() {
         return false;
@@ -38,7 +38,7 @@ pub fn are_same(ring: &HeapCircularBuffer<u8>, other: &HeapCircularBuffer<u8>) -
 
 /// Whether two rings of items hold the same.
 pub fn are_same_items(ring: &HeapCircularBuffer<Item>, other: &HeapCircularBuffer<Item>) -> bool
-    ensures equal { result ≡ true → ring.now.items ≡ other.now.items }
+    ensures equal { IsTrue result ↔ (ring.now.items ≡ other.now.items) }
 {
     if ring.len() != other.len() {
         return false;
@@ -56,7 +56,7 @@ pub fn are_same_items(ring: &HeapCircularBuffer<Item>, other: &HeapCircularBuffe
 
 // Whether two items are the same.
 fn is_same(item: Item, other: Item) -> bool
-    ensures equal { result ≡ true → item ≡ other }
+    ensures equal { IsTrue result ↔ (item ≡ other) }
 {
     item == other
 }

@@ -1,6 +1,6 @@
 //! The console as one value, and what can be read of it.
 
-ghost use Rattle.std.specs.Prelude.{◌≡◌, ◌<◌, length, IfOk, true};
+ghost use Rattle.std.specs.Prelude.{◌≡◌, ◌↔◌, IsTrue, ◌<◌, length, IfOk};
 ghost use Rattle.xinu_model.specs.Console.Sound.{IsSoundConsole};
 ghost use Rattle.xinu_model.specs.Console.State.{first_console, with_next_item};
 ghost use Rattle.tty_driver.specs.Sizes.{sizes_of};
@@ -88,7 +88,7 @@ impl Tty {
 
     /// Whether another console is equal.
     pub fn equals(&self, other: &Self) -> bool
-        ensures equal { result ≡ true → self.now ≡ other.now }
+        ensures equal { IsTrue result ↔ (self.now ≡ other.now) }
     {
         self.mode == other.mode
             && self.echoes == other.echoes

@@ -20,4 +20,4 @@ pub loop-k-preserved : goal.loop-k-preserved
 loop-k-preserved c =
     let within : c.loop-k.k < length c.args.ring.now.items = omega (arith, c.loop-k-test.true, c.len-k-end.ensures.len) in
     let within' : c.loop-k.k < length c.args.other.now.items = omega (arith, within, c.if-len.false, c.len.ensures.len, c.len-2.ensures.len) in
-    one_more _ _ _ _ within within' c.loop-k.invariant (sym c.in-Some-Some.ensures ∙ ap Some (c.is_same.ensures.equal c.if-not-is_same.false)) (sym c.in-Some-Some.ensures')
+    one_more _ _ _ _ within within' c.loop-k.invariant (sym c.in-Some-Some.ensures ∙ ap Some (c.is_same.ensures.equal.0 c.if-not-is_same.false)) (sym c.in-Some-Some.ensures')

@@ -1,4 +1,4 @@
-use Rattle.std.proofs.Common.{◌-◌, ◌∙◌}
+use Rattle.std.proofs.Common.{◌∙◌}
 use Rattle.tty_driver.proofs.Splits.{erased_input}
 use Rattle.tty_driver.proofs.input.Input.erase.Goals as goal
 use Rattle.tty_driver.proofs.input.Input.erase.Goals.{in-Some-Char, in-Some-End, in-Some-End-2}
