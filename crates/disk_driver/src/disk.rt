@@ -1,6 +1,6 @@
 //! The raw disk: its blocks, and the requests that wait for it (book, chapter 18, `rdsread.c`, `rdswrite.c`, `rdsprocess.c`).
 
-ghost use Rattle.std.specs.Prelude.{◌≡◌, ◌<◌, ◌≤◌, [], ◌∷◌, IfNone, IfSome, length, option_map, pos, slice_set, true};
+ghost use Rattle.std.specs.Prelude.{◌≡◌, ◌↔◌, IsTrue, ◌<◌, ◌≤◌, [], ◌∷◌, IfNone, IfSome, length, option_map, pos, slice_set, true};
 ghost use Rattle.std.specs.List.{concat};
 ghost use Rattle.lfs_layout.specs.Images.{blocks_of};
 ghost use Rattle.disk_driver.specs.Served.{bytes_read, request_of, served_of};
@@ -59,7 +59,7 @@ impl Disk {
 
     /// Whether another disk is equal.
     pub fn equals(&self, other: &Self) -> bool
-        ensures equal { result ≡ true → self.now ≡ other.now }
+        ensures equal { IsTrue result ↔ (self.now ≡ other.now) }
     {
         self.requests.as_slice() == other.requests.as_slice() && self.blocks.equals(&other.blocks)
     }

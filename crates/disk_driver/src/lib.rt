@@ -14,7 +14,7 @@
 //! | `block` | `within`: there is the block | `block`, `size`: its 512 bytes |
 //! | `set_block` | `within`: there is the block | `set`: its bytes are these, and nothing else changes |
 //! | `bytes` | | `bytes`: the blocks joined |
-//! | `equals`, `clone` | | `equal`: `true` only if what a clause sees is equal; a clone is equal, and takes memory |
+//! | `equals`, `clone` | | `equal`: `true` if and only if what a clause sees is equal; a clone is equal, and takes memory |
 //!
 //! The law [`zero_bytes_are_empty_blocks`] says what a disk has on which nothing was written.
 //!

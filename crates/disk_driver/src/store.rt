@@ -1,6 +1,6 @@
 //! The blocks of a disk, one after another in one run of bytes.
 
-ghost use Rattle.std.specs.Prelude.{◌≡◌, ◌<◌, ◌≤◌, [], length, slice_index_or, slice_set, true};
+ghost use Rattle.std.specs.Prelude.{◌≡◌, ◌↔◌, IsTrue, ◌<◌, ◌≤◌, [], length, slice_index_or, slice_set, true};
 ghost use Rattle.std.specs.List.{concat};
 ghost use Rattle.lfs_layout.specs.Images.{blocks_of, is_raw};
 
@@ -36,7 +36,7 @@ impl Blocks {
 
     // Whether others have the same bytes.
     pub(crate) fn equals(&self, other: &Self) -> bool
-        ensures equal { result ≡ true → self.now ≡ other.now }
+        ensures equal { IsTrue result ↔ (self.now ≡ other.now) }
     {
         self.bytes.as_slice() == other.bytes.as_slice()
     }
