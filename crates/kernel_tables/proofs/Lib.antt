@@ -6,6 +6,7 @@ pub mod Sent
 pub mod Running
 pub mod Wakeups
 pub mod Waiters
+pub mod SameTables
 pub mod Walking
 pub mod WalkingQueues
 pub mod WalkingSleepers

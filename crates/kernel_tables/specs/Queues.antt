@@ -2,7 +2,7 @@
 use Rattle.std.specs.Prelude.{◌≡◌, ◌<◌, ℕ, Bool, true, false, List, Some, IsSomeAnd}
 use Rattle.delta_clock.specs.Wakeups.{WakesLater}
 use Rattle.process_core.specs.Tables.{process_in}
-use Rattle.queue_table.specs.Lists.{Entry, place}
+use Rattle.queue_table.specs.Lists.{Entry, list_at, numbers, place}
 use Rattle.semaphores.specs.Counts.{Counts}
 use Rattle.semaphores.specs.declared.sems.SemaphoreEntry.{SemaphoreEntry}
 use Rattle.xinu_base.specs.declared.processes.Process.{Process}
@@ -14,6 +14,12 @@ use Rattle.xinu_model.specs.Sound.Tables.{sleeping_places}
 pub record AreQueues (ls : List (List Entry)) (es : List SemaphoreEntry) : Type 0 where
   pub counts : Counts ls es
   pub later : WakesLater ls
+
+-- The same processes wait on each semaphore, in the same order, and the ready list and that of the sleepers are the same.
+pub record AreSameQueues (ls ms : List (List Entry)) : Type 0 where
+  pub waiters : (sem : ℕ) → sem < 128 → numbers (list_at ls sem) ≡ numbers (list_at ms sem)
+  pub ready : list_at ls 128 ≡ list_at ms 128
+  pub sleepers : list_at ls 129 ≡ list_at ms 129
 
 -- Whoever waits is in the queue of a semaphore, and whoever sleeps, perhaps for a message, is in that of the sleepers.
 pub record ArePlaced (ls : List (List Entry)) (ps : List Process) : Type 0 where

@@ -80,17 +80,6 @@ impl KernelTables {
         })
     }
 
-    /// Whether other tables are equal.
-    pub fn equals(&self, other: &Self) -> bool
-        ensures equal { result ≡ true → self.now ≡ other.now }
-    {
-        self.clock.equals(&other.clock)
-            && self.procs.equals(&other.procs)
-            && self.slots.equals(&other.slots)
-            && self.sems.equals(&other.sems)
-            && self.lists.equals(&other.lists)
-    }
-
     /// The current process.
     #[tactic(auto, unfolding(process_core::specs::Tables::tables_of))]
     pub fn current(&self) -> Pid
