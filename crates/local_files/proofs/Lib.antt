@@ -1,5 +1,6 @@
 pub mod Standing
 pub mod Devices
+pub mod SameOpen
 pub mod Beginning
 pub mod Closings
 pub mod Ends

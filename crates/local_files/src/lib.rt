@@ -11,7 +11,8 @@
 //! | `completed` | `wants`: a block is | `goes`: the call goes on, and the files stand as before it, or it is done as the abstract machine's call is, with its reply, its bytes and its files; `less`: fewer completions are left |
 //! | `answer`, `gathered` | | the reply of a call that is done, after which none is in hand; the bytes that it read |
 //! | `position`, `open_count` | | what is open |
-//! | `has_same_open`, `clone` | | `equal`: `true` only if the devices of another engine have the same open; a clone is equal, and takes memory |
+//! | `has_same_open` | | `equal`: `true` exactly if the devices of another engine show the same, if both stand for disks: the names of files, their positions, and whether each may be read and written |
+//! | `clone` | | an equal engine; it takes memory |
 //! | [`file_name`] | | a text as a call names a file: `bare`, `name`; `none`: no file has such a name |
 //! | [`is_call`] | | whether a call can be made, as `begin` requires it: `can`, `only` |
 //! | `holds_files_at_rest` | | a law: at each moment the disk holds the files that are neither open nor named by the call in hand |
@@ -57,10 +58,10 @@
 #![tactic(auto)]
 
 mod buffer;
+mod copies;
 mod cutting;
 mod ending;
 mod engine;
-mod equality;
 mod growing;
 mod laws;
 mod looking;
