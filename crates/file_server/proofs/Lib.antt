@@ -5,6 +5,7 @@ pub mod Held
 pub mod Issues
 pub mod Lists
 pub mod Places
+pub mod SameFiles
 pub mod Servers
 pub mod Settling
 pub mod Starts

@@ -1,6 +1,6 @@
 //! A disk with the file engine that works on it: a call begins, and goes on at each good completion until it has its reply.
 
-ghost use Rattle.std.specs.Prelude.{◌≡◌, ◌≤◌, ◌<◌, ◌/◌, ◌+◌, ◌-◌, ◌*◌, ℕ, List, Option, Some, None, IsSome, IfOk, MatchOption, is_some, length, true};
+ghost use Rattle.std.specs.Prelude.{◌≡◌, ◌≤◌, ◌<◌, ◌/◌, ◌+◌, ◌-◌, ◌*◌, ℕ, List, Option, Some, None, IsSome, IsTrue, ◌↔◌, IfOk, MatchOption, is_some, length};
 ghost use Rattle.std.specs.List.{list_any};
 ghost use Rattle.file_laws.specs.StoredFiles.{stored_files};
 ghost use Rattle.file_server.specs.DiskStates.{HasFewTurns, HeldCall, Waits, IsDone, IsFirstHeld};
@@ -76,17 +76,13 @@ impl FileDisk {
         })
     }
 
-    // Whether another disk is equal, and no call waits for a block of either. False if one does.
-    pub(crate) fn equals(&self, other: &Self) -> bool
-        ensures equal { result ≡ true → self.now ≡ other.now }
+    // Whether another disk has the same files, the same of them open, and the same bytes.
+    pub(crate) fn has_same_files(&self, other: &Self) -> bool
+        requires idle { self.now.hand ≡ None }
+        requires other_idle { other.now.hand ≡ None }
+        ensures equal { IsTrue result ↔ ((self.now.system ≡ other.now.system) × (self.now.image ≡ other.now.image)) }
     {
-        self.files.blocks == other.files.blocks
-            && self.files.wants().is_none()
-            && other.files.wants().is_none()
-            && self.files.has_same_open(&other.files)
-            && self.files.gathered() == other.files.gathered()
-            && self.disk.as_slice() == other.disk.as_slice()
-            && self.settled.as_slice() == other.settled.as_slice()
+        self.files.has_same_open(&other.files) && self.disk.as_slice() == other.disk.as_slice()
     }
 
     // Begins a call: it has its reply, or it waits for a block.

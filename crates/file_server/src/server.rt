@@ -6,7 +6,7 @@ ghost use Rattle.file_server.specs.Requests.{IsRequest, note_of, request_of};
 ghost use Rattle.file_server.specs.ServerStates.{IsCompleted, IsIssued};
 ghost use Rattle.given_disks.specs.HeldFiles.{HoldsFiles};
 ghost use Rattle.local_files.specs.Resting.{ServesDisk};
-ghost use Rattle.std.specs.Prelude.{◌≡◌, ◌<◌, ◌≤◌, ◌/◌, [], ◌∷◌, IfOk, MatchOption, false, true, length, map};
+ghost use Rattle.std.specs.Prelude.{◌≡◌, ◌<◌, ◌≤◌, ◌/◌, ◌↔◌, [], ◌∷◌, IsTrue, IfOk, MatchOption, false, true, length, map};
 ghost use Rattle.xinu_base.specs.declared.lines.FileMoment.TheVariants.{Finished};
 ghost use Rattle.xinu_model.specs.Files.Rest.{are_calls, is_busy};
 ghost use Rattle.xinu_model.specs.Files.Systems.{closed_system, open_at};
@@ -70,14 +70,13 @@ impl FileServer {
         })
     }
 
-    /// Whether another server is equal, and no call is under way. False if one is.
+    /// Whether another server is equal and no call is under way.
     pub fn equals(&self, other: &Self) -> bool
-        ensures equal { result ≡ true → self.now ≡ other.now }
+        ensures equal { IsTrue result ↔ ((are_calls self.now.work.calls ≡ false) × (self.now ≡ other.now)) }
     {
         self.requests.is_empty()
             && other.requests.is_empty()
-            && self.turns == other.turns
-            && self.disk.equals(&other.disk)
+            && self.disk.has_same_files(&other.disk)
     }
 
     /// The bytes of the disk.
