@@ -13,7 +13,7 @@
 //! | `are_calls`, `pending` | | whether calls are under way, and how many, which are at most 64 |
 //! | `open_file`, `is_busy` | | the position and the size of an open file; whether a file is open or a call is under way |
 //! | `bytes` | | the bytes of the disk |
-//! | `equals` | | `equal`: `true` exactly if what a clause sees of another server is equal and no call is under way |
+//! | `equals` | | `equal`: `true` if and only if what a clause sees of another server is equal and no call is under way |
 //! | `clone` | | an equal server; it takes memory |
 //! | `holds` | | a law: the disk holds the files at rest, and if no call is under way it is clean for exactly its files |
 //!

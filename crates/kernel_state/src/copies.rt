@@ -1,6 +1,8 @@
 //! Copies of states, and whether two are equal.
 
-ghost use Rattle.std.specs.Prelude.{◌≡◌, true};
+ghost use Rattle.std.specs.Prelude.{◌≡◌, ◌↔◌, IsTrue, false};
+ghost use Rattle.xinu_model.specs.Files.Rest.{are_calls};
+ghost use Rattle.xinu_model.specs.Files.Syscalls.{files_of};
 
 use crate::state::KernelState;
 use std::alloc::AllocError;
@@ -37,9 +39,10 @@ impl Clone for KernelState {
 }
 
 impl KernelState {
-    /// Whether another state is equal, and no call on files is under way. False if one is.
+    /// Whether another state is equal and no call on files is under way.
     pub fn equals(&self, other: &Self) -> bool
-        ensures equal { result ≡ true → self.now ≡ other.now }
+        ensures equal { IsTrue result ↔
+            ((are_calls (files_of self.now.call.state).calls ≡ false) × (self.now ≡ other.now)) }
     {
         if self.owes_resched != other.owes_resched {
             return false;

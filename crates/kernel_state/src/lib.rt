@@ -8,7 +8,7 @@
 //! |---|---|
 //! | `is_on_device`, `call_of`, `released` | whether what is left of the current process's call is of one on a device; the call in its registers; the replies so far |
 //! | `holds_files` | a law: the disk with files holds the files at rest |
-//! | `equals`, `clone` | `equal`: `true` only if what a clause sees is equal, and never while a call on files is under way; a clone is equal, and takes memory |
+//! | `equals`, `clone` | `equal`: `true` if and only if what a clause sees is equal and no call on files is under way; a clone is equal, and takes memory |
 //! | `ram_is_whole` | a law: RAM has its size |
 //! | `instruction` | `exec` of the current process |
 //! | `release`, `give_token` | who waited on a semaphore is ready, and is answered if nothing is left of its call: `replies_to`, `signalled` |

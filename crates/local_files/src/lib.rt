@@ -11,7 +11,7 @@
 //! | `completed` | `wants`: a block is | `goes`: the call goes on, and the files stand as before it, or it is done as the abstract machine's call is, with its reply, its bytes and its files; `less`: fewer completions are left |
 //! | `answer`, `gathered` | | the reply of a call that is done, after which none is in hand; the bytes that it read |
 //! | `position`, `open_count` | | what is open |
-//! | `has_same_open` | | `equal`: `true` exactly if the devices of another engine show the same, if both stand for disks: the names of files, their positions, and whether each may be read and written |
+//! | `has_same_open` | | `equal`: `true` if and only if the devices of another engine show the same, if both stand for disks: the names of files, their positions, and whether each may be read and written |
 //! | `clone` | | an equal engine; it takes memory |
 //! | [`file_name`] | | a text as a call names a file: `bare`, `name`; `none`: no file has such a name |
 //! | [`is_call`] | | whether a call can be made, as `begin` requires it: `can`, `only` |
