@@ -1,6 +1,8 @@
 //! Copies of kernels, and whether two are equal.
 
-ghost use Rattle.std.specs.Prelude.{◌≡◌, true};
+ghost use Rattle.std.specs.Prelude.{◌≡◌, ◌↔◌, IsTrue, false};
+ghost use Rattle.xinu_model.specs.Files.Rest.{are_calls};
+ghost use Rattle.xinu_model.specs.Files.Syscalls.{files_of};
 
 use crate::kernel::Kernel;
 use std::alloc::AllocError;
@@ -18,9 +20,10 @@ impl Clone for Kernel {
 }
 
 impl Kernel {
-    /// Whether another kernel is equal, and no call on files is under way. False if one is.
+    /// Whether another kernel is equal and no call on files is under way.
     pub fn equals(&self, other: &Self) -> bool
-        ensures equal { result ≡ true → self.now ≡ other.now }
+        ensures equal { IsTrue result ↔
+            ((are_calls (files_of self.now.came.call.state).calls ≡ false) × (self.now ≡ other.now)) }
     {
         self.answer == other.answer && self.state.equals(&other.state)
     }

@@ -22,7 +22,7 @@
 //! | `on_tx` | `idle` | `byte`, `sent`: the byte that the console sends; `None`, and nothing changes, if and only if output is held or there is none |
 //! | `on_disk` | `idle` | `completes`: the raw disk's first request is served, well or badly; nothing changes if none waits |
 //! | `on_files` | `idle` | `completes`: so many calls on files take effect, as many as the abstract machine allows, and what happened; nothing changes if none is under way; `image`: at most one block of the disk changes |
-//! | `equals`, `clone` | | `equal`: `true` only if what a clause sees is equal, and never while a call on files is under way; a clone is equal, and takes memory |
+//! | `equals`, `clone` | | `equal`: `true` if and only if what a clause sees is equal and no call on files is under way; a clone is equal, and takes memory |
 //! | `close_event` | | `closed`: idle in the state at the end of the event |
 //!
 //! That a kernel stands for a state that is sound, inside an event or between two, is kept by the type: the invariant of `Kernel` is what
