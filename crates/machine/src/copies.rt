@@ -1,6 +1,8 @@
 //! Copies of machines, and whether two are equal.
 
-ghost use Rattle.std.specs.Prelude.{◌≡◌, true};
+ghost use Rattle.std.specs.Prelude.{◌≡◌, ◌↔◌, IsTrue, false};
+ghost use Rattle.xinu_model.specs.Files.Rest.{are_calls};
+ghost use Rattle.xinu_model.specs.Files.Syscalls.{files_of};
 
 use crate::machine::Machine;
 use std::alloc::AllocError;
@@ -19,9 +21,10 @@ impl Clone for Machine {
 }
 
 impl Machine {
-    /// Whether another machine is equal, and no call on files is under way. False if one is.
+    /// Whether another machine is equal and no call on files is under way.
     pub fn equals(&self, other: &Self) -> bool
-        ensures equal { result ≡ true → self.now ≡ other.now }
+        ensures equal { IsTrue result ↔
+            ((are_calls (files_of self.now.state).calls ≡ false) × (self.now ≡ other.now)) }
     {
         self.events == other.events
             && self.has_ended == other.has_ended

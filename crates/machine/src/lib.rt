@@ -13,7 +13,7 @@
 //! | [`Machine::state`] | | `state`, `image`: the parts of the state, each to be read by its own calls, stand for it; `sound`, `few`: it is sound, and few ticks came |
 //! | [`Machine::dump`] | | prints the tables of the state |
 //! | [`Machine::lists`] | | `linked`: the entries of the one table of lists are linked; `ready`, `waiters`, `sleepers`: its queues are the lists of the state |
-//! | [`Machine::equals`], `clone` | | `equal`: `true` only if what a clause sees is equal, and never while a call on files is under way; a clone is equal |
+//! | [`Machine::equals`], `clone` | | `equal`: `true` if and only if what a clause sees is equal and no call on files is under way; a clone is equal |
 //! | [`Machine::disk`] | disk 0 or 1 | `bytes`: of disk 0 the blocks of the raw disk, of disk 1 the disk with files; `holds`: that holds the files of the state at rest, and is clean for exactly them if no call on files is under way |
 //!
 //! Printing is `Prints` of `host_port`: all bytes unless the printer fails, else a prefix of them; if the output is plain, of the bytes
