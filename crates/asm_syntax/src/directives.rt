@@ -1,6 +1,6 @@
 //! The directives, with their operands.
 
-ghost use Rattle.std.specs.Prelude.{◌≡◌, ◌≤ℤ◌, pos, negsuc, ◌%◌, [], ◌∷◌, map};
+ghost use Rattle.std.specs.Prelude.{◌≡◌, ◌%◌, [], ◌∷◌, map};
 ghost use Rattle.asm_syntax.specs.CodeOperands.{seen_operand};
 ghost use Rattle.asm_syntax.specs.CodeStatements.{seen_statement, IsProper};
 ghost use Rattle.asm_syntax.specs.CodeMeanings.{directive_of};

@@ -7,7 +7,6 @@ ghost use Rattle.xinu_model.specs.Isa.Instructions.{FormU, FormJ, FormI, FormB, 
 ghost use Rattle.asm_syntax.specs.CodeOperands.{seen_operand};
 ghost use Rattle.asm_syntax.specs.CodeStatements.{seen_statement, IsProper};
 ghost use Rattle.asm_syntax.specs.Meanings.{Instruction, slots_of};
-ghost use Rattle.asm_syntax.specs.Meanings as meanings;
 ghost use Rattle.asm_syntax.specs.Statements.{made_of, one, within};
 ghost use Rattle.asm_syntax.specs.Statements as spec;
 ghost use Rattle.asm_syntax.specs.Values.{fitting};

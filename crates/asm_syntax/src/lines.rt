@@ -1,6 +1,6 @@
 //! Lines: the labels that begin one, and the statement after them.
 
-ghost use Rattle.std.specs.Prelude.{◌≡◌, ◌<◌, ◌≤◌, ◌==◌, [], ◌∷◌, length, map, true, false, Some, None, MatchOption, IfSome};
+ghost use Rattle.std.specs.Prelude.{◌≡◌, ◌<◌, [], ◌∷◌, length, map, true, false, Some, None, MatchOption, IfSome};
 ghost use Rattle.asm_syntax.specs.CodeLines.{skip, is_named, is_blank_token, starts_with_colon};
 ghost use Rattle.asm_syntax.specs.CodeMeanings.{seen_meaning, HasRoom};
 ghost use Rattle.asm_syntax.specs.CodeOperands.{seen_operand};

@@ -1,6 +1,6 @@
 //! The operands of a statement.
 
-ghost use Rattle.std.specs.Prelude.{◌≡◌, ◌<◌, ◌≤◌, ◌≤ℤ◌, ◌==◌, [], ◌∷◌, ◌++◌, length, take, map, pos, negsuc, MatchOption, IfSome, Some, None};
+ghost use Rattle.std.specs.Prelude.{◌≡◌, ◌<◌, ◌==◌, [], ◌∷◌, ◌++◌, length, take, map, MatchOption, IfSome, Some, None};
 ghost use Rattle.std.specs.List.{position};
 ghost use Rattle.asm_syntax.specs.CodeOperands.{seen_operand, first_four};
 ghost use Rattle.asm_syntax.specs.CodeTokens.{seen};

@@ -1,7 +1,7 @@
 //! Tokens cut off the front of a line. Nothing is copied, and no memory is taken.
 
-ghost use Rattle.std.specs.Prelude.{ℕ, ◌≡◌, ◌<◌, ◌≤◌, ◌+◌, ◌==◌, true, false, not, [], ◌∷◌, length, take, drop, slice_index, MatchOption, IfSome, Some};
-ghost use Rattle.std.specs.List.{position, position_or_len};
+ghost use Rattle.std.specs.Prelude.{◌≡◌, ◌<◌, ◌≤◌, ◌+◌, ◌==◌, true, false, [], ◌∷◌, length, slice_index, MatchOption, IfSome, Some};
+ghost use Rattle.std.specs.List.{position};
 ghost use Rattle.asm_syntax.specs.Tokens as spec;
 ghost use Rattle.asm_syntax.specs.CodeTokens.{seen};
 

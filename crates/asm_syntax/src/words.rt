@@ -1,6 +1,6 @@
 //! Names, registers and calls.
 
-ghost use Rattle.std.specs.Prelude.{◌≡◌, ◌<◌, ◌≤◌, IfSome, Some, map};
+ghost use Rattle.std.specs.Prelude.{◌≡◌, ◌<◌, IfSome, Some, map};
 ghost use Rattle.std.specs.List.{list_all};
 ghost use Rattle.asm_syntax.specs.Numbers.{is_between};
 ghost use Rattle.asm_syntax.specs.Numbers as numbers;

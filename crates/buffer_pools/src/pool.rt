@@ -3,7 +3,7 @@
 //! It keeps true that the free buffers are distinct ones of the pool, and that there is room for all of them, so that only a place for a
 //! pool takes memory. The list of free buffers is outside of the machine's RAM.
 
-ghost use Rattle.std.specs.Prelude.{◌≡◌, ◌↔◌, IsTrue, ◌+◌, ◌-◌, ◌*◌, ◌%◌, ◌<◌, ◌≤◌, ◌∷◌, ◌&&◌, not, true, length, drop, reverse, vec_capacity, IfOk, slice_get, ◌^◌};
+ghost use Rattle.std.specs.Prelude.{◌≡◌, ◌↔◌, IsTrue, ◌+◌, ◌-◌, ◌*◌, ◌%◌, ◌<◌, ◌≤◌, ◌∷◌, ◌&&◌, true, length, drop, reverse, vec_capacity, IfOk, slice_get, ◌^◌};
 ghost use Rattle.xinu_model.specs.Memory.{may_access, ranges_meet};
 ghost use Rattle.xinu_model.specs.Pools.Buffers.{addresses, buffers, held_in, is_held, is_in, new_pool, no_pool, pool_bytes, with_free};
 

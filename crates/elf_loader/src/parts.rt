@@ -1,7 +1,7 @@
 //! The parts of an image that the segments of an ELF file load.
 
 ghost use Rattle.std.specs.Prelude.{◌≡◌, ◌≤◌, ◌<◌, true, not, length, filter, map, MatchOption, IfSome};
-ghost use Rattle.std.specs.List.{list_all, list_any};
+ghost use Rattle.std.specs.List.{list_all};
 ghost use Rattle.elf_loader.specs.ElfFiles as files;
 ghost use Rattle.elf_loader.specs.ElfHeaders.{fits_memory, is_load, loaded_segment, loaded_segments};
 ghost use Rattle.image_loader.specs.Parts as images;

@@ -1,6 +1,6 @@
 //! The reader of ELF files.
 
-ghost use Rattle.std.specs.Prelude.{◌≡◌, ◌≤◌, length, map, true, pos, Some, None, IfOk, MatchResult};
+ghost use Rattle.std.specs.Prelude.{◌≡◌, map, true, pos, Some, None, IfOk, MatchResult};
 ghost use Rattle.std.specs.List.{list_all};
 ghost use Rattle.elf_loader.specs.ElfFiles as files;
 ghost use Rattle.elf_loader.specs.ElfFiles.{elf_fault, elf_image, elf_loaded, segments_fault};

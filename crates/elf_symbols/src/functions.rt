@@ -1,6 +1,6 @@
 //! In which function an address is.
 
-ghost use Rattle.std.specs.Prelude.{◌≡◌, ◌≤◌, true};
+ghost use Rattle.std.specs.Prelude.{◌≡◌, true};
 ghost use Rattle.elf_symbols.specs.CodePlaces.{seen_place};
 ghost use Rattle.elf_symbols.specs.Functions as spec;
 ghost use Rattle.elf_symbols.specs.Sections as sections;

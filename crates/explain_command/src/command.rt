@@ -1,6 +1,6 @@
 //! The command: its arguments and files are read as `run` reads them, and the run is told.
 
-ghost use Rattle.std.specs.Prelude.{◌≡◌, ◌≤◌, false, length, map, IfOk};
+ghost use Rattle.std.specs.Prelude.{◌≡◌, ◌≤◌, false, length, map};
 ghost use Rattle.run_inputs.specs.InputFaults.{have_fault};
 
 use crate::faults::meaning;

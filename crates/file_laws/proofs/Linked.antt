@@ -11,7 +11,7 @@ use Rattle.lfs_check.specs.declared.fields.Header.{Header}
 use Rattle.lfs_check.specs.Geometries.{index_count, first_data}
 use Rattle.lfs_check.specs.Rules.{block_in, entry_is_used}
 use Rattle.lfs_check.specs.Meets.{times_met}
-use Rattle.lfs_check.specs.Laid.{Shape, Places, numbers_at, index_in, index_for, index_put, entry_in}
+use Rattle.lfs_check.specs.Laid.{Shape, Places, numbers_at, index_in, index_for, index_put}
 use Rattle.lfs_check.specs.Clean.{LaidIn}
 use Rattle.lfs_check.specs.Fields.{index_in_bytes}
 use Rattle.lfs_check.proofs.Numbered.{length_numbered}

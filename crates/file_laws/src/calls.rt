@@ -7,7 +7,7 @@ ghost use Rattle.lfs_layout.specs.Files.{bare_name};
 ghost use Rattle.lfs_layout.specs.Images.{IsCleanImage};
 ghost use Rattle.xinu_model.specs.Files.Calls.{file_effect};
 ghost use Rattle.xinu_model.specs.Files.Calls as model;
-ghost use Rattle.xinu_model.specs.Files.Stored.{StoredFile, file_named, with_contents, without_file};
+ghost use Rattle.xinu_model.specs.Files.Stored.{file_named, with_contents, without_file};
 ghost use Rattle.xinu_model.specs.Files.Systems.{OpenFile, FileSystem, FileEffect, open_at, is_open, replies, refused_effect};
 ghost use Rattle.xinu_model.specs.Files.Writing.{overwritten, fitting};
 ghost use Rattle.file_laws.specs.StoredFiles.{stored_files, entry_bytes};

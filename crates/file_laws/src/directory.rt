@@ -1,6 +1,6 @@
 //! The two writes of the directory, and the clean disks that they leave.
 
-ghost use Rattle.std.specs.Prelude.{ℕ, ◌≡◌, ◌+◌, ◌*◌, ◌/◌, ◌%◌, ◌<◌, ◌≤◌, true, false, List, [], length, slice_set};
+ghost use Rattle.std.specs.Prelude.{ℕ, ◌≡◌, ◌+◌, ◌/◌, ◌%◌, ◌<◌, ◌≤◌, true, false, List, [], length, slice_set};
 ghost use Rattle.lfs_format.specs.declared.Entry.{Entry};
 ghost use Rattle.lfs_format.specs.Directory.{dir_of, IsDirBlock};
 ghost use Rattle.lfs_check.specs.declared.fields.Header.{Header};

@@ -5,7 +5,7 @@ ghost use Rattle.lfs_check.specs.Rules.{entry_is_used, is_name};
 ghost use Rattle.lfs_check.specs.Disks.{entries, entry_at, is_this};
 ghost use Rattle.lfs_layout.specs.Files.{bare_name, is_before};
 ghost use Rattle.lfs_layout.specs.Images.{IsCleanImage};
-ghost use Rattle.xinu_model.specs.Files.Stored.{StoredFile, file_named, precedes};
+ghost use Rattle.xinu_model.specs.Files.Stored.{file_named, precedes};
 ghost use Rattle.file_laws.specs.StoredFiles.{stored_files, entry_bytes};
 
 /// Names with zeros up to 28 bytes are the same, and in the same order, as their texts.

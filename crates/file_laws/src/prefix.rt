@@ -8,7 +8,7 @@ ghost use Rattle.lfs_check.specs.Laid.{Places};
 ghost use Rattle.lfs_check.specs.Disks.{entry_at};
 ghost use Rattle.lfs_layout.specs.Files.{bare_name};
 ghost use Rattle.xinu_model.specs.Files.Room.{data_blocks, index_blocks, they_fit};
-ghost use Rattle.xinu_model.specs.Files.Stored.{StoredFile, with_contents};
+ghost use Rattle.xinu_model.specs.Files.Stored.{with_contents};
 ghost use Rattle.xinu_model.specs.Files.Systems.{OpenFile, FileSystem, open_bytes};
 ghost use Rattle.xinu_model.specs.Files.Writing.{overwritten, fitting};
 ghost use Rattle.file_laws.specs.StoredFiles.{stored_files};

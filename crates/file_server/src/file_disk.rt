@@ -7,7 +7,6 @@ ghost use Rattle.file_server.specs.DiskStates.{HasFewTurns, HeldCall, Waits, IsD
 ghost use Rattle.file_server.specs.OpenFiles.{place_of};
 ghost use Rattle.given_disks.specs.HeldFiles.{HoldsFiles};
 ghost use Rattle.lfs_check.specs.Disks.{block_put};
-ghost use Rattle.lfs_layout.specs.Images.{IsCleanImage};
 ghost use Rattle.local_files.specs.Bounds.{left};
 ghost use Rattle.local_files.specs.Hands.{IsCall};
 ghost use Rattle.local_files.specs.Resting.{ChangesOneBlock, IsOnDisk};

@@ -1,15 +1,14 @@
 //! A call becomes the first: it takes effect at once, or waits for a block. So do the calls after it, one after another.
 
 ghost use Rattle.arrayvec.specs.ArrayVec.{array_vec_len};
-ghost use Rattle.file_server.specs.DiskStates.{DiskState};
-ghost use Rattle.file_server.specs.Requests.{AreRequests, IsRequest, call_with, note_of, request_of};
+ghost use Rattle.file_server.specs.Requests.{AreRequests, call_with, note_of, request_of};
 ghost use Rattle.file_server.specs.Starts.{HasBegun, TookEffect, WentOn, about_to};
 ghost use Rattle.file_server.specs.Servers.{FirstIsHeld, work_of};
-ghost use Rattle.std.specs.Prelude.{◌≡◌, ◌<◌, ◌≤◌, ◌+◌, ◌++◌, ℕ, [], ◌∷◌, Some, None, IsSome, MatchOption, false, true, if◌then◌else◌, length, map, is_ok, take, drop};
+ghost use Rattle.std.specs.Prelude.{◌≡◌, ◌<◌, ◌≤◌, ◌+◌, ◌++◌, [], ◌∷◌, Some, None, false, true, if◌then◌else◌, length, map};
 ghost use Rattle.xinu_base.specs.declared.lines.FileMoment.TheVariants.{Next};
 ghost use Rattle.xinu_model.specs.Files.Sound.{InRam};
 ghost use Rattle.xinu_model.specs.Files.Work.{FileStep, bytes_written, copied, took_effect};
-ghost use Rattle.xinu_model.specs.Memory.{in_ram, ram_size};
+ghost use Rattle.xinu_model.specs.Memory.{in_ram};
 
 use crate::file_disk::FileDisk;
 use crate::requests::{FileNote, FileNotes, FileRequest, Requests};

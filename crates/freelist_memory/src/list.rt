@@ -3,7 +3,7 @@
 //! It depends on the searches of `blocks`. It keeps true that the blocks are in order, with a taken cell between any two, and that
 //! there is room for as many as there can be, so that only a new list takes memory.
 
-ghost use Rattle.std.specs.Prelude.{◌≡◌, ◌≢◌, ◌↔◌, IsTrue, ℕ, ◌+◌, ◌<◌, ◌≤◌, ◌++◌, true, false, length, take, drop, replicate, vec_len, vec_capacity, IfOk, IfNone, IfSome, if◌then◌else◌, ◌^◌, ◌-◌, ◌/◌, count_by, find, nat_le, option_map};
+ghost use Rattle.std.specs.Prelude.{◌≡◌, ◌≢◌, ◌↔◌, IsTrue, ℕ, ◌+◌, ◌<◌, ◌≤◌, ◌++◌, true, false, length, take, drop, replicate, vec_capacity, IfOk, IfNone, IfSome, if◌then◌else◌, ◌^◌, ◌-◌, ◌/◌, count_by, find, nat_le, option_map};
 ghost use Rattle.xinu_model.specs.Heap.Cells.{begins_with, blocks_from, highest_free, lowest_free, marked};
 ghost use Rattle.freelist_memory.specs.Blocks.{span_of, unless_empty};
 ghost use Rattle.freelist_memory.specs.Gaps.{Fits, IsGiven};

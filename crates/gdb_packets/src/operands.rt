@@ -1,6 +1,6 @@
 //! What follows the name of a packet: numbers, threads, or nothing.
 
-ghost use Rattle.std.specs.Prelude.{ℕ, ◌≡◌, MatchOption, None, Some};
+ghost use Rattle.std.specs.Prelude.{◌≡◌, MatchOption, None, Some};
 ghost use Rattle.gdb_packets.specs.Names.{rest_after};
 ghost use Rattle.gdb_packets.specs.Operands as spec;
 

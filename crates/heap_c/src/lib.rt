@@ -11,7 +11,7 @@
 //! The archive needs `rattle_alloc` and `rattle_dealloc`, which the toolchain's C library has.
 #![tactic(auto)]
 
-ghost use Rattle.std.specs.Prelude.{◌≡◌, ◌≤◌, ◌==◌, ◌<◌, ◌⊎◌, true, not, length};
+ghost use Rattle.std.specs.Prelude.{◌≡◌, ◌==◌, ◌⊎◌, not, length};
 ghost use Rattle.heap_c.specs.Answers.{answers_of, is_heap, whole};
 
 mod calls;

@@ -1,7 +1,7 @@
 //! What texts say of files: names, modes, and the calls that open and delete a file (book, chapter 19, `lfsopen.c`, `lfgetmode.c`).
 
 ghost use Rattle.std.specs.List.{list_all};
-ghost use Rattle.std.specs.Prelude.{◌≡◌, ◌&&◌, IfSome, length, option_map, true};
+ghost use Rattle.std.specs.Prelude.{◌≡◌, ◌&&◌, IfSome, option_map, true};
 ghost use Rattle.file_server.specs.Requests.{call_with};
 ghost use Rattle.local_files.specs.Hands.{IsCall};
 ghost use Rattle.xinu_model.specs.Files.Issue as model;

@@ -5,7 +5,7 @@
 //! `clock_moves.rt`.
 
 ghost use Rattle.std.specs.List.{list_all};
-ghost use Rattle.std.specs.Prelude.{◌≡◌, ◌≢◌, ◌==◌, ◌↔◌, IsTrue, IfSome, IfNone, IfOk, drop, true};
+ghost use Rattle.std.specs.Prelude.{◌≡◌, ◌≢◌, ◌↔◌, IsTrue, IfSome, IfNone, IfOk, drop};
 ghost use Rattle.xinu_model.specs.Boot.{null_tables};
 ghost use Rattle.xinu_model.specs.Process.Creation.{free_process};
 ghost use Rattle.xinu_model.specs.Tables.{is_free, message_at, process_at, state_at};

@@ -1,9 +1,8 @@
 //! What rules 4 and 5 say of one chain.
 
-ghost use Rattle.std.specs.Prelude.{◌≡◌, ℕ, ◌+◌, ◌-◌, ◌*◌, ◌≤◌, ◌<◌, ◌^◌, length, slice_index, slice_index_or, drop};
-ghost use Rattle.lfs_check.specs.Geometries.{index_count, first_data, IsGeometry};
+ghost use Rattle.std.specs.Prelude.{◌≡◌, ℕ, ◌+◌, ◌-◌, ◌*◌, ◌≤◌, ◌<◌, ◌^◌, length, slice_index};
+ghost use Rattle.lfs_check.specs.Geometries.{IsGeometry};
 ghost use Rattle.lfs_check.specs.Checks.{least, is_between, is_good_end, last_or, end_holder, free_data_fault, free_index_fault, is_file_end, end_fault, number_fits, row_fits, row_fault, rows_fault, offset_fault, offsets_fault, need_index, need_data};
-ghost use Rattle.lfs_check.specs.Laid.{no_index};
 
 use crate::geometry::{Geometry, block_of_entry, block_of_index, data_from, indexes_on};
 use crate::walks::Walk;

@@ -3,7 +3,7 @@
 ghost use Rattle.std.specs.Prelude.{◌≡◌, ◌+◌, ◌*◌, ◌≤◌, ◌++◌, ◌∷◌, [], length, IfOk, None};
 ghost use Rattle.lfs_check.specs.Geometries.{index_count, IsGeometry};
 ghost use Rattle.lfs_check.specs.Checks.{rule_4, rule_5, rule_6, rule_7, free_data_fault, free_index_fault, least, free_data_of, free_index_of, free_data_end, free_index_end, index_numbers, data_numbers};
-ghost use Rattle.lfs_check.specs.Fields.{fields_of, directory_header, directory_entries, geometry_of};
+ghost use Rattle.lfs_check.specs.Fields.{fields_of, directory_header, directory_entries};
 ghost use Rattle.lfs_check.specs.Faults.{named, either_fault, IsCheckResult, dir_fault, walks_fault, shape_fault, counted_report, fault, report};
 
 use crate::chain_rules::{free_data_fault, free_index_fault, least};

@@ -1,6 +1,6 @@
 //! The fields of an image, in both versions.
 
-ghost use Rattle.std.specs.Prelude.{◌≡◌, ℕ, ◌+◌, ◌*◌, ◌≤◌, ◌<◌, length, drop, IfOk};
+ghost use Rattle.std.specs.Prelude.{◌≡◌, ◌+◌, ◌*◌, ◌≤◌, ◌<◌, length, drop, IfOk};
 ghost use Rattle.lfs_format.specs.Words.{word_of};
 ghost use Rattle.lfs_check.specs.Geometries.{index_count, IsGeometry};
 ghost use Rattle.lfs_check.specs.Checks.{nexts_of};

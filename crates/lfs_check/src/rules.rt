@@ -1,8 +1,8 @@
 //! Rules 0 to 3: what the size and the directory of an image can break.
 
-ghost use Rattle.std.specs.Prelude.{◌≡◌, ℕ, ◌+◌, ◌*◌, ◌≤◌, ◌<◌, length, take, slice_index_or, count_by};
+ghost use Rattle.std.specs.Prelude.{◌≡◌, ◌+◌, ◌*◌, ◌≤◌, ◌<◌, length, take, slice_index_or, count_by};
 ghost use Rattle.lfs_format.specs.Directory.{void_entry};
-ghost use Rattle.lfs_check.specs.Geometries.{longest_name, room, IsGeometry};
+ghost use Rattle.lfs_check.specs.Geometries.{longest_name, IsGeometry};
 ghost use Rattle.lfs_check.specs.Rules.{entry_is_used, is_name, rule_0, rule_1, rule_2, rule_3, has_bad_name, text_length, are_zeros, has_name, is_larger, begins_right, ends_right, is_dir_block};
 
 use crate::fields::{Header, block_at};

@@ -1,8 +1,8 @@
 //! What the walks of all files meet.
 
-ghost use Rattle.std.specs.Prelude.{◌≡◌, ℕ, ◌+◌, ◌*◌, ◌≤◌, ◌<◌, ◌^◌, ◌++◌, ◌∷◌, [], length, slice_index, slice_index_or, drop, IfOk, OnOk, map, None};
+ghost use Rattle.std.specs.Prelude.{◌≡◌, ℕ, ◌+◌, ◌≤◌, ◌<◌, ◌^◌, ◌++◌, ◌∷◌, [], length, slice_index, IfOk, OnOk};
 ghost use Rattle.std.specs.List.{flat_map};
-ghost use Rattle.lfs_check.specs.Checks.{least, need_index, need_data, met_of, end_of_walk, end_fault, rows_fault, offsets_fault, file_fault_4, file_fault_5, file_index_numbers, file_data_numbers, data_row, lowest_of};
+ghost use Rattle.lfs_check.specs.Checks.{least, need_data, met_of, end_of_walk, end_fault, rows_fault, offsets_fault, file_fault_4, file_fault_5, file_index_numbers, file_data_numbers, data_row, lowest_of};
 ghost use Rattle.lfs_check.specs.Rules.{entry_is_used};
 ghost use Rattle.lfs_check.specs.Clean.{chain_in, data_in};
 

@@ -1,6 +1,6 @@
 //! Walks of chains.
 
-ghost use Rattle.std.specs.Prelude.{◌≡◌, ℕ, ◌+◌, ◌*◌, ◌≤◌, ◌<◌, length, [], IfOk};
+ghost use Rattle.std.specs.Prelude.{◌≡◌, ◌≤◌, ◌<◌, length, [], IfOk};
 ghost use Rattle.lfs_check.specs.Walks.{walk, walk_end, is_open};
 
 use std::alloc::{AllocError, Global};

@@ -1,9 +1,8 @@
 //! The directory of an image that is made.
 
-ghost use Rattle.std.specs.Prelude.{◌≡◌, ℕ, ◌+◌, ◌-◌, ◌≤◌, ◌<◌, ◌^◌, length, IfOk};
+ghost use Rattle.std.specs.Prelude.{◌≡◌, ◌+◌, ◌-◌, ◌<◌, ◌^◌, length, IfOk};
 ghost use Rattle.lfs_format.specs.Directory.{dir_bytes};
 ghost use Rattle.lfs_check.specs.Built.{chain_head};
-ghost use Rattle.lfs_layout.specs.Files.{total_for};
 ghost use Rattle.lfs_layout.specs.Made.{indexes_needed, entry_for, entries_for, no_entry, all_entries, header_for, dir_for, file_of, all_files, geometry_2, Room};
 
 use crate::files::{NamedFile, data_total, index_total, indexes_needed};

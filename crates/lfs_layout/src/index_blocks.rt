@@ -1,6 +1,6 @@
 //! The index blocks of an image that is made.
 
-ghost use Rattle.std.specs.Prelude.{◌≡◌, ℕ, ◌+◌, ◌-◌, ◌*◌, ◌≤◌, ◌<◌, ◌++◌, length, slice_index_or, replicate, IfOk, OnOk};
+ghost use Rattle.std.specs.Prelude.{◌≡◌, ◌+◌, ◌-◌, ◌*◌, ◌≤◌, ◌<◌, ◌++◌, length, slice_index_or, replicate, IfOk, OnOk};
 ghost use Rattle.lfs_check.specs.Geometries.{first_data};
 ghost use Rattle.lfs_check.specs.Meets.{null};
 ghost use Rattle.lfs_check.specs.Laid.{index_for};

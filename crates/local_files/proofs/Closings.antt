@@ -23,7 +23,7 @@ use Rattle.local_files.specs.declared.FileCall.{FileCall}
 use Rattle.local_files.specs.declared.FileCall.TheVariants.{Open}
 use Rattle.local_files.specs.Hands.{system, IsMade, IsDevice, IsOpenOn, AreApart, IsCall, IsCreating, IsClosing, IsEntryWrite, IsHeaderRead, IsEntryBlock, IsHeaderBlock, files_after, MayLook, name_of, but_blocks}
 use Rattle.local_files.specs.Steps.{device_at, answered, lowest_free, shown}
-use Rattle.local_files.specs.Standing.{Stands, InHand, GoesTo, call_bytes}
+use Rattle.local_files.specs.Standing.{Stands, GoesTo, call_bytes}
 use Rattle.local_files.specs.Opens.{opened}
 use Rattle.local_files.proofs.Devices.{set_stands, shown_set}
 use Rattle.xinu_model.specs.Files.Systems as systems

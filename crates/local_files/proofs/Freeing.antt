@@ -17,7 +17,7 @@ use Rattle.local_files.specs.declared.FileCall.TheVariants.{Open, Delete, Close,
 use Rattle.local_files.specs.declared.Phase.{Phase}
 use Rattle.local_files.specs.Hands.{system, IsMade, IsCall, IsEntryBlock, IsHeaderBlock, name_of, put_bytes, name_in_hand, but_blocks}
 use Rattle.local_files.specs.Steps.{device_at, device_of}
-use Rattle.local_files.specs.Standing.{Stands, InHand, served, GoesTo, call_bytes, given_bytes, IsStanding}
+use Rattle.local_files.specs.Standing.{GoesTo, call_bytes, given_bytes, IsStanding}
 use Rattle.local_files.specs.Standing as engine
 use Rattle.xinu_model.specs.Files.Calls as model
 use Rattle.lfs_format.specs.Directory.{void_entry}

@@ -1,6 +1,6 @@
 //! The bytes that a call puts or takes: room for 1,048,576, taken once.
 
-ghost use Rattle.std.specs.Prelude.{◌≡◌, ◌+◌, ◌≤◌, List, ℕ, length, take, drop, IfOk, MatchOption, slice_index};
+ghost use Rattle.std.specs.Prelude.{◌≡◌, ◌+◌, List, ℕ, length, take, IfOk, slice_index};
 ghost use Rattle.local_files.specs.Buffers.{put_at, patched};
 
 use std::alloc::Global;

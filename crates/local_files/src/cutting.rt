@@ -1,11 +1,10 @@
 //! `truncate`, and what a deletion does first: the blocks of a file are freed, its index blocks in their order and after each its data blocks.
 
-ghost use Rattle.std.specs.Prelude.{◌≡◌, ◌<◌, ◌≤◌, ◌+◌, ◌/◌, ◌%◌, ℕ, true, false, Some, None, negsuc, pos, length};
-ghost use Rattle.lfs_format.specs.Words.{word_of};
+ghost use Rattle.std.specs.Prelude.{◌≡◌, ◌<◌, ◌%◌, Some, None};
 ghost use Rattle.lfs_format.specs.Indexes.{index_at, IsIndexPut};
 ghost use Rattle.local_files.specs.Steps.{device_at, with_index};
 ghost use Rattle.local_files.specs.Wanted.{to_write};
-ghost use Rattle.local_files.specs.Cuts.{truncating_at, truncating, cutting, freed_index, cut_written, free_next, freeing, free_written, end_cut, word_block};
+ghost use Rattle.local_files.specs.Cuts.{truncating_at, truncating, cutting, freed_index, cut_written, free_next, freeing, free_written, end_cut};
 
 use crate::{FileCall, FileDev, Files, OpenFile, Phase, Purpose};
 use byteorder::{ByteOrder, LittleEndian};

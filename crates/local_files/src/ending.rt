@@ -1,9 +1,9 @@
 //! The end of a call that changes the directory: the block of the entry is read and written, and then the first block with the counts.
 
-ghost use Rattle.std.specs.Prelude.{◌≡◌, ◌+◌, ◌/◌, ◌%◌, ◌<◌, ℕ, pos, Some};
+ghost use Rattle.std.specs.Prelude.{◌≡◌, ◌%◌, Some};
 ghost use Rattle.lfs_format.specs.Directory.{dir_of, IsDirBlock};
 ghost use Rattle.lfs_check.specs.Disks.{dir_with_entry, dir_with_header};
-ghost use Rattle.local_files.specs.Steps.{lowest_free, named_device};
+ghost use Rattle.local_files.specs.Steps.{named_device};
 ghost use Rattle.local_files.specs.Wanted.{to_write};
 ghost use Rattle.local_files.specs.Opens.{ended, ended_at};
 

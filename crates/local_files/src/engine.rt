@@ -1,6 +1,6 @@
 //! The engine's calls.
 
-ghost use Rattle.std.specs.Prelude.{◌≡◌, ◌+◌, ◌*◌, ◌/◌, ◌<◌, ◌≤◌, ℕ, List, Some, None, IsSome, IfOk, length, replicate, take};
+ghost use Rattle.std.specs.Prelude.{◌≡◌, ◌*◌, ◌<◌, ◌≤◌, ℕ, List, Some, None, IsSome, IfOk, length, replicate};
 ghost use Rattle.local_files.specs.Standing.{call_of, Stands, GoesTo, IsHonest, wanted, served, call_bytes, given_bytes, gathered, reply_in, taken_in};
 ghost use Rattle.local_files.specs.Hands.{IsCall, system};
 ghost use Rattle.local_files.specs.Steps.{device_at};

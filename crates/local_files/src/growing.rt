@@ -1,6 +1,6 @@
 //! A file gets a new data block, and a new index block if one is needed.
 
-ghost use Rattle.std.specs.Prelude.{replicate, ◌≡◌, ◌<◌, ◌≤◌, ◌+◌, ◌/◌, ◌%◌, ℕ, true, false, length};
+ghost use Rattle.std.specs.Prelude.{replicate, ◌≡◌, ◌/◌, ◌%◌, length};
 ghost use Rattle.lfs_format.specs.Words.{word_of};
 ghost use Rattle.lfs_format.specs.Indexes.{index_at, IsIndexPut};
 ghost use Rattle.local_files.specs.Steps.{at_byte, with_piece, with_free_data, with_free_index, with_index};

@@ -1,6 +1,6 @@
 //! Laws of an engine that waits: what its disk holds, which block it wants, and what a call that is refused leaves.
 
-ghost use Rattle.std.specs.Prelude.{◌≡◌, ◌≤◌, ◌<◌, ℕ, List, Bool, IsSome};
+ghost use Rattle.std.specs.Prelude.{◌≡◌, ◌≤◌, ℕ, List, Bool, IsSome};
 ghost use Rattle.file_laws.specs.StoredFiles.{stored_files};
 ghost use Rattle.file_laws.specs.Holds.{Holds};
 ghost use Rattle.xinu_model.specs.Files.Work.{FileWork};

@@ -1,11 +1,9 @@
 //! `open`, `close`, `seek`, the size, and the search of a name for `open` and `delete`.
 
-ghost use Rattle.std.specs.Prelude.{List, ◌≡◌, ◌+◌, ◌*◌, ◌<◌, ◌≤◌, ℕ, true, false, Some, None, pos, negsuc, ◌==◌, if◌then◌else◌};
-ghost use Rattle.lfs_format.specs.Directory.{dir_of};
+ghost use Rattle.std.specs.Prelude.{◌≡◌, ◌+◌, ◌*◌, ◌<◌, Some, None, ◌==◌, if◌then◌else◌};
 ghost use Rattle.lfs_check.specs.Fields.{header_2};
-ghost use Rattle.lfs_check.specs.Rules.{block_in};
 ghost use Rattle.local_files.specs.Hands.{name_of};
-ghost use Rattle.local_files.specs.Steps.{device_at, lowest_free, is_this_open};
+ghost use Rattle.local_files.specs.Steps.{device_at, is_this_open};
 ghost use Rattle.local_files.specs.Opens.{closing, seeking, sizing, beginning, deleting, finding, missing, searching_on, opening_at, IsNoted, IsLook};
 
 use crate::search::first_unused;

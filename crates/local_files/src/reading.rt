@@ -1,9 +1,9 @@
 //! `read` and `getc`: the index blocks of the file up to that of the position, and its data blocks from the position on.
 
-ghost use Rattle.std.specs.Prelude.{◌≡◌, ◌<◌, ◌≤◌, ◌+◌, ◌-◌, ◌*◌, ◌/◌, ◌%◌, ◌++◌, ℕ, List, true, Some, None, negsuc, pos, length, take, drop, min, slice_index};
+ghost use Rattle.std.specs.Prelude.{◌≡◌, ◌+◌, ◌-◌, ◌/◌, ◌%◌, Some, None, pos, length, min, slice_index};
 ghost use Rattle.lfs_format.specs.Indexes.{index_at};
 ghost use Rattle.local_files.specs.Steps.{answered, device_at, piece, at_byte, named_device};
-ghost use Rattle.local_files.specs.Takes.{reading_at, reading, walked, fetched, next_fetch, finished_read, finished_at, given_all, read_on, with_taken};
+ghost use Rattle.local_files.specs.Takes.{reading_at, reading, walked, fetched, next_fetch, finished_read, finished_at, given_all, with_taken};
 
 use crate::table::count;
 use crate::{FileCall, FileDev, Files, OpenFile, Phase, Purpose};

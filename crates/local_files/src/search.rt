@@ -1,6 +1,6 @@
 //! Entries of a directory block.
 
-ghost use Rattle.std.specs.Prelude.{◌≡◌, ◌<◌, ◌≤◌, ℕ, true, false, MatchOption, slice_index_or, length};
+ghost use Rattle.std.specs.Prelude.{◌≡◌, ◌<◌, ℕ, true, false, MatchOption, slice_index_or};
 ghost use Rattle.lfs_format.specs.Directory.{void_entry};
 ghost use Rattle.lfs_check.specs.Rules.{entry_is_used};
 ghost use Rattle.lfs_check.specs.Disks.{is_this};

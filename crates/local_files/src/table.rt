@@ -1,6 +1,6 @@
 //! The devices: which files are open, and where in them; and where a call is in its file.
 
-ghost use Rattle.std.specs.Prelude.{◌≡◌, ◌≢◌, ◌<◌, ◌≤◌, ◌+◌, ◌-◌, ◌%◌, ℕ, true, false, slice_set, slice_index_or, Some, None, map, pos, negsuc, min, count_by, is_some};
+ghost use Rattle.std.specs.Prelude.{◌≡◌, ◌<◌, ◌≤◌, ◌+◌, ◌-◌, ◌%◌, true, false, Some, None, map, min, count_by, is_some};
 ghost use Rattle.xinu_model.specs.Files.Systems.{free_device};
 ghost use Rattle.local_files.specs.Steps.{shown, device_at, position_at, is_this_open, answered, at_byte, piece, moved_to, kept_at, counted, named_device, is_getc, is_write, is_truncate, is_delete};
 

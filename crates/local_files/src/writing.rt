@@ -1,6 +1,6 @@
 //! `write`, `putc`: the index blocks up to that of the position, and data blocks that are there.
 
-ghost use Rattle.std.specs.Prelude.{◌≡◌, ◌≢◌, ◌<◌, ◌≤◌, ◌+◌, ◌-◌, ◌/◌, ◌%◌, ℕ, true, false, Some, None, negsuc, pos, length};
+ghost use Rattle.std.specs.Prelude.{◌≡◌, ◌+◌, ◌-◌, ◌/◌, ◌%◌, Some, None, length};
 ghost use Rattle.lfs_format.specs.Indexes.{index_at};
 ghost use Rattle.lfs_format.specs.Directory.{dir_of};
 ghost use Rattle.local_files.specs.Steps.{device_at, at_byte, with_piece};

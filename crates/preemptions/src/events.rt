@@ -1,11 +1,10 @@
 //! Events with quantum ends put into them.
 
-ghost use Rattle.std.specs.Prelude.{◌≡◌, ◌+◌, ◌≤◌, ◌<◌, List, ◌∷◌, ◌++◌, length, IfOk, OnOk};
+ghost use Rattle.std.specs.Prelude.{◌≡◌, ◌+◌, ◌<◌, IfOk};
 ghost use Rattle.preemptions.specs.Placements.{IsAscending};
 ghost use Rattle.preemptions.specs.Preempted as spec;
 ghost use Rattle.preemptions.specs.Preempted.{preempted_at};
 ghost use Rattle.preemptions.specs.Passes.{AreAhead, Steps};
-ghost use Rattle.xinu_base.specs.declared.events.Event.TheVariants as event;
 
 use std::alloc::{AllocError, Global};
 use xinu_base::Event;

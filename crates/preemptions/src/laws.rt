@@ -1,6 +1,6 @@
 //! Laws of the definitions.
 
-ghost use Rattle.std.specs.Prelude.{◌≡◌, ◌≢◌, ◌↔◌, ℕ, List, [], ◌∷◌, drop};
+ghost use Rattle.std.specs.Prelude.{◌≡◌, ◌≢◌, ℕ, List, [], ◌∷◌, drop};
 ghost use Rattle.std.specs.List.{AllPairs, Contains};
 ghost use Rattle.preemptions.specs.Placements.{IsPlacement, placements};
 

@@ -1,6 +1,6 @@
 //! All placements, one after another.
 
-ghost use Rattle.std.specs.Prelude.{◌≡◌, ◌+◌, ◌≤◌, ◌<◌, [], ◌∷◌, drop, MatchOption, MatchResult, IfOk};
+ghost use Rattle.std.specs.Prelude.{◌≡◌, ◌≤◌, ◌<◌, [], ◌∷◌, drop, MatchOption, MatchResult};
 ghost use Rattle.preemptions.specs.Placements as spec;
 
 use crate::next::next_places;

@@ -8,7 +8,7 @@ ghost use Rattle.queue_table.specs.Lists.{Entry, place};
 ghost use Rattle.queue_table.specs.Table as table;
 ghost use Rattle.xinu_model.specs.Process.Creation.{free_process, new_process};
 ghost use Rattle.xinu_model.specs.Searches.{numbers_from};
-ghost use Rattle.xinu_model.specs.Tables.{is_free, message_at, move_to, no_process, Nowhere};
+ghost use Rattle.xinu_model.specs.Tables.{is_free, move_to, no_process, Nowhere};
 
 use crate::procs::{Procs, free_entry};
 use queue_table::Lists;

@@ -1,6 +1,6 @@
 //! The base's events, and which placements of quantum ends in them are gone through.
 
-ghost use Rattle.std.specs.Prelude.{◌≡◌, ◌<◌, ◌≤◌, ◌++◌, length, IfOk, IfErr, MatchResult};
+ghost use Rattle.std.specs.Prelude.{◌≡◌, ◌<◌, ◌≤◌, length, IfOk, IfErr};
 ghost use Rattle.std.specs.List.{count_by};
 ghost use Rattle.preemptions.specs.Preempted.{is_step};
 ghost use Rattle.races_command.specs.Judged as spec;

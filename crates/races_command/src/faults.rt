@@ -1,6 +1,6 @@
 //! Why the command wasn't carried out, and how it is told.
 
-ghost use Rattle.std.specs.Prelude.{◌≡◌, length};
+ghost use Rattle.std.specs.Prelude.{◌≡◌};
 ghost use Rattle.run_inputs.specs.Conversions.{host_refusal};
 ghost use Rattle.races_command.specs.Theorem as spec;
 ghost use Rattle.races_command.specs.declared.faults.Fault.TheVariants as variant;

@@ -1,6 +1,6 @@
 //! What the command sends: the table, and the schedule of its second row.
 
-ghost use Rattle.std.specs.Prelude.{◌≡◌, ◌≢◌, ◌≤◌, ◌<◌, Some, None, length, map, option_map, IfOk, MatchResult};
+ghost use Rattle.std.specs.Prelude.{◌≡◌, ◌≤◌, ◌<◌, Some, length, map, option_map, IfOk, MatchResult};
 ghost use Rattle.std.specs.List.{All, sum};
 ghost use Rattle.host_port.specs.Outside.{appended, counted};
 ghost use Rattle.host_port.specs.declared.host.Channel.TheVariants as channel;

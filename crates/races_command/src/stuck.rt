@@ -1,6 +1,6 @@
 //! Runs that can't go on.
 
-ghost use Rattle.std.specs.Prelude.{◌≡◌, true, bytes_eq, length, IfSome};
+ghost use Rattle.std.specs.Prelude.{◌≡◌, true, bytes_eq};
 ghost use Rattle.races_command.specs.Stuck as spec;
 ghost use Rattle.text_lines.specs.Lines.{lines_of, tokens_of};
 ghost use Rattle.std.specs.List.{list_all};

@@ -1,6 +1,6 @@
 //! The calls on processes, memory, semaphores, messages and the clock by their numbers, and what is left of those that wait.
 
-ghost use Rattle.std.specs.Prelude.{◌≡◌, ◌≢◌, ◌≤◌, ℕ, IfOk, length, true};
+ghost use Rattle.std.specs.Prelude.{◌≡◌, ◌≤◌, ℕ, IfOk, length, true};
 ghost use Rattle.reference_calls.specs.Rests.{is_core};
 ghost use Rattle.reference_state.specs.Answers.{came_to, IsStart};
 ghost use Rattle.xinu_base.specs.Syscalls.{is_of};

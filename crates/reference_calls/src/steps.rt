@@ -1,6 +1,6 @@
 //! One instruction of the current process, and how it ends a process (book, chapters 4 and 5).
 
-ghost use Rattle.std.specs.Prelude.{◌≡◌, ◌∷◌, [], IfOk};
+ghost use Rattle.std.specs.Prelude.{◌≡◌, IfOk};
 ghost use Rattle.reference_state.specs.Answers.{IsStart};
 ghost use Rattle.reference_state.specs.Happened.{happened};
 ghost use Rattle.xinu_base.specs.declared.registers.Outcome.TheVariants as outcome;

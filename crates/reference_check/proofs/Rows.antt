@@ -1,5 +1,5 @@
 -- What a call comes to and leaves of the files, by its family.
-use Rattle.std.proofs.Common.{◌≡◌, ℕ, List, None, Result, Ok, Err, refl, sym, ap, subst}
+use Rattle.std.proofs.Common.{◌≡◌, ℕ, List, None, Result, Ok, Err, sym, ap, subst}
 use Rattle.std.specs.Prelude.{IfOk}
 use Rattle.reference_check.specs.Leaving.{Leaves, NoneMade}
 use Rattle.reference_check.proofs.Made.{IsPlain, none_if_same, plain_none}

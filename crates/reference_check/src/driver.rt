@@ -1,6 +1,6 @@
 //! A text is read along a run: one machine, one place in the text, event by event.
 
-ghost use Rattle.std.specs.Prelude.{◌≡◌, ◌+◌, ◌≤◌, IfOk, MatchOption, bytes_eq, false, length};
+ghost use Rattle.std.specs.Prelude.{◌≡◌, ◌≤◌, IfOk, MatchOption, bytes_eq, false, length};
 ghost use Rattle.reference_check.specs.Bounds.{IsWithin};
 ghost use Rattle.reference_check.specs.Taking.{Took};
 ghost use Rattle.reference_state.specs.Answers.{IsStart};

@@ -1,5 +1,5 @@
 -- Whether a prefix begins a name, and replacements one after another.
-use Rattle.std.proofs.Common.{◌≡◌, ℕ, ◌-◌, nat_le, true, if◌then◌else◌, List, length, Some, None, sym, ap}
+use Rattle.std.proofs.Common.{◌≡◌, ℕ, nat_le, true, if◌then◌else◌, List, length, Some, None, sym, ap}
 use Rattle.xinu_model.specs.Names.Constants.{NAMESPACE, NM_MAXLEN, NM_MAXMAPS}
 use Rattle.xinu_model.specs.Names.Mapping.{map_name, replaced_times}
 use Rattle.xinu_model.specs.Names.Mounting.{NameRow}

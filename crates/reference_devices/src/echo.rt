@@ -1,6 +1,6 @@
 //! What the console echoes (book, chapter 15).
 
-ghost use Rattle.std.specs.Prelude.{◌≡◌, ◌∷◌, [], IfOk, if◌then◌else◌};
+ghost use Rattle.std.specs.Prelude.{◌≡◌, IfOk, if◌then◌else◌};
 ghost use Rattle.reference_devices.specs.Columns.{one_column, two_columns};
 ghost use Rattle.xinu_model.specs.Console.Echo as model;
 

@@ -1,6 +1,6 @@
 //! How long a call on files may take: after so many good completions it takes effect at the latest.
 
-ghost use Rattle.std.specs.Prelude.{◌≡◌, ◌<◌, ◌^◌, length};
+ghost use Rattle.std.specs.Prelude.{◌≡◌, length};
 ghost use Rattle.reference_state.specs.FileCalls.{file_call_of};
 ghost use Rattle.xinu_model.specs.Files.Stored as stored;
 ghost use Rattle.xinu_model.specs.Files.Systems as systems;

@@ -1,6 +1,6 @@
 //! Reading a file, and its position and size (book, chapter 19, `lflread.c`, `lflgetc.c`, `lflseek.c`, `lflcontrol.c`).
 
-ghost use Rattle.std.specs.Prelude.{◌≡◌, ◌≤◌, IfOk, drop, length, take};
+ghost use Rattle.std.specs.Prelude.{◌≡◌, ◌≤◌, IfOk, length};
 ghost use Rattle.reference_files.specs.Effects.{left};
 ghost use Rattle.reference_files.specs.Sizes.{IsSmall};
 ghost use Rattle.xinu_model.specs.Files.Reading as model;

@@ -1,6 +1,6 @@
 //! The file system: its files and its open devices. Devices are counted from the first file device.
 
-ghost use Rattle.std.specs.Prelude.{◌≡◌, ◌+◌, ◌≤◌, [], IfOk, MatchOption, None, Some, length};
+ghost use Rattle.std.specs.Prelude.{◌≡◌, ◌+◌, [], IfOk, MatchOption, None, Some};
 ghost use Rattle.reference_files.specs.Effects.{left};
 ghost use Rattle.xinu_model.specs.Files.Systems as model;
 

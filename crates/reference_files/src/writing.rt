@@ -1,9 +1,8 @@
 //! Writing a file (book, chapter 19, `lflwrite.c`, `lflputc.c`, `lftruncate.c`).
 
-ghost use Rattle.std.specs.Prelude.{◌≡◌, ◌+◌, ◌≤◌, ◌∷◌, [], IfOk, length, take};
+ghost use Rattle.std.specs.Prelude.{◌≡◌, ◌+◌, ◌≤◌, [], IfOk, length};
 ghost use Rattle.reference_files.specs.Effects.{left};
 ghost use Rattle.reference_files.specs.Sizes.{IsSmall};
-ghost use Rattle.xinu_model.specs.Files.Stored as stored;
 ghost use Rattle.xinu_model.specs.Files.Systems as systems;
 ghost use Rattle.xinu_model.specs.Files.Writing as model;
 

@@ -1,6 +1,6 @@
 //! What changes the ports: one is made, deleted, emptied, or has other messages (book, chapter 11).
 
-ghost use Rattle.std.specs.Prelude.{ℕ, ◌≡◌, ◌≤◌, ◌<◌, ◌+◌, ◌-◌, ◌%◌, ◌++◌, ◌∷◌, [], IfOk, IfSome, MatchOption, Some, None, not, nat_le, slice_set};
+ghost use Rattle.std.specs.Prelude.{◌≡◌, ◌≤◌, ◌<◌, ◌+◌, ◌-◌, ◌%◌, ◌++◌, ◌∷◌, [], IfOk, IfSome, MatchOption, Some, None, not, nat_le, slice_set};
 ghost use Rattle.std.specs.List.{find};
 ghost use Rattle.reference_ports.specs.Heads.{queue_with};
 ghost use Rattle.xinu_base.specs.declared.semaphores.Owner.TheVariants as owner;

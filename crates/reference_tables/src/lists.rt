@@ -1,6 +1,6 @@
 //! Lists as the definitions read and change them: an entry that isn't there reads as a fixed value, and writing it does nothing.
 
-ghost use Rattle.std.specs.Prelude.{◌≡◌, ◌==◌, not, filter, slice_index_or, slice_set, IfOk, int_lt, nat_le, ◌++◌, ◌∷◌, []};
+ghost use Rattle.std.specs.Prelude.{◌≡◌, not, filter, slice_index_or, slice_set, IfOk, int_lt, nat_le, ◌++◌, ◌∷◌, []};
 ghost use Rattle.xinu_base.specs.Insert.{ready_insert, sleeper_insert};
 ghost use Rattle.xinu_model.specs.Tables.{entries_without, numbers_without};
 

@@ -1,5 +1,5 @@
 -- A text of at most ten decimal digits that is read as no number is empty.
-use Rattle.std.proofs.Common.{◌≡◌, ◌==◌, ◌<◌, ◌≤◌, ◌^◌, ℕ, false, true, List, [], ◌∷◌, length, refl, sym, subst, arith, lit<}
+use Rattle.std.proofs.Common.{◌≡◌, ◌<◌, ◌≤◌, ◌^◌, ℕ, false, true, List, [], ◌∷◌, length, refl, sym, subst, arith, lit<}
 use Rattle.std.specs.List.{list_all}
 use Rattle.std.specs.Char.{is_ascii_digit}
 use Rattle.std.specs.Str.Parse.{IsNumeral, digits_value, without_leading_plus}

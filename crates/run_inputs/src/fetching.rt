@@ -1,6 +1,6 @@
 //! A file that is fetched.
 
-ghost use Rattle.std.specs.Prelude.{◌<◌, ◌^◌, ◌∷◌, [], IfOk, IfErr};
+ghost use Rattle.std.specs.Prelude.{◌<◌, ◌∷◌, [], IfOk, IfErr};
 ghost use Rattle.run_inputs.specs.Fetching.{FetchesFiles, IsFetched, IsOfHost, refusal_of};
 
 use crate::refusals::Refusal;

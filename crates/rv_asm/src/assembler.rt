@@ -1,10 +1,9 @@
 //! Texts assembled to image files.
 
-ghost use Rattle.std.specs.Prelude.{◌≡◌, ◌≤◌, ◌++◌, true, length, is_some, Some, None, MatchResult, IfOk, IfErr, OnOk};
+ghost use Rattle.std.specs.Prelude.{◌≡◌, ◌≤◌, ◌++◌, true, length, is_some, Some, None, MatchResult, IfOk, OnOk};
 ghost use Rattle.asm_syntax.specs.Statements.{word_bytes};
 ghost use Rattle.image_loader.specs.ImageFiles.{image_in};
 ghost use Rattle.rv_asm.specs.Assembly as spec;
-ghost use Rattle.rv_asm.specs.CodeLabels.{found};
 ghost use Rattle.rv_asm.specs.CodeLayouts.{seen_layout};
 
 use crate::faults::AsmFault;

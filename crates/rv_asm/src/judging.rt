@@ -1,6 +1,6 @@
 //! The faults of a line.
 
-ghost use Rattle.std.specs.Prelude.{◌≡◌, ◌≤◌, ◌+◌, ◌-ℤ◌, ◌&&◌, ◌%◌, ◌==◌, nat_le, nat_lt, pos, Bool, Option, Some, None};
+ghost use Rattle.std.specs.Prelude.{◌≡◌, ◌≤◌, ◌+◌, ◌-ℤ◌, ◌&&◌, ◌%◌, ◌==◌, nat_le, nat_lt, pos, Option, Some, None};
 ghost use Rattle.asm_syntax.specs.CodeStatements.{seen_statement, IsProper};
 ghost use Rattle.asm_syntax.specs.Statements.{word_of};
 ghost use Rattle.rv_asm.specs.CodeLabels.{found};

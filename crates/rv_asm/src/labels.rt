@@ -1,6 +1,6 @@
 //! The labels of a text, with their addresses.
 
-ghost use Rattle.std.specs.Prelude.{ℕ, ◌≡◌, List, Option, Some, None, OnOk};
+ghost use Rattle.std.specs.Prelude.{ℕ, ◌≡◌, List, Option, None, OnOk};
 ghost use Rattle.rv_asm.specs.CodeLabels.{found};
 ghost use Rattle.rv_asm.specs.Layouts.{or_address};
 ghost use Rattle.std.specs.Str.{bytes_eq};

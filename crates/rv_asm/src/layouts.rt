@@ -1,6 +1,6 @@
 //! How the statements of a text lie one after another.
 
-ghost use Rattle.std.specs.Prelude.{ℕ, ◌≡◌, ◌∷◌, ◌||◌, Bool, List, [], length, is_some, unwrap_or, Some, None, OnOk, IfOk};
+ghost use Rattle.std.specs.Prelude.{◌≡◌, ◌∷◌, ◌||◌, [], is_some, Some, None, OnOk, IfOk};
 ghost use Rattle.asm_syntax.specs.CodeStatements.{seen_statement, IsProper};
 ghost use Rattle.asm_syntax.specs.Statements.{line_of, statement_of};
 ghost use Rattle.asm_syntax.specs.Tokens.{tokens_of};

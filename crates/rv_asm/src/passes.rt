@@ -1,6 +1,6 @@
 //! The second pass: each line is judged and its bytes are put, with the labels of all lines known.
 
-ghost use Rattle.std.specs.Prelude.{ℕ, ◌≡◌, ◌≤◌, ◌++◌, List, length, unwrap_or, if◌then◌else◌, Option, Some, None, OnOk, IfOk, IfErr};
+ghost use Rattle.std.specs.Prelude.{◌≡◌, ◌≤◌, ◌++◌, length, unwrap_or, if◌then◌else◌, Option, Some, None, OnOk, IfOk, IfErr};
 ghost use Rattle.asm_syntax.specs.CodeStatements.{seen_statement, IsProper};
 ghost use Rattle.asm_syntax.specs.Statements.{line_of};
 ghost use Rattle.rv_asm.specs.Assembly.{bytes_at, content, lines_in};

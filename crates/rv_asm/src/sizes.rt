@@ -1,6 +1,6 @@
 //! The sizes and the kinds of statements.
 
-ghost use Rattle.std.specs.Prelude.{◌≡◌, ◌+◌, ◌≤◌, length, true, is_some};
+ghost use Rattle.std.specs.Prelude.{◌≡◌, ◌+◌, length, true, is_some};
 ghost use Rattle.asm_syntax.specs.CodeStatements.{seen_statement, IsProper};
 ghost use Rattle.asm_syntax.specs.Texts.{bytes_of, text_bytes};
 ghost use Rattle.rv_asm.specs.Layouts as spec;

@@ -2,7 +2,7 @@
 use Rattle.std.proofs.Common.{◌≡◌, ℕ, true, List, [], ◌∷◌, ◌++◌, Some, refl, sym, ap, ◌∙◌, append_assoc, append-nil}
 use Rattle.asm_syntax.specs.Tokens.{Token, Blank, Colon, Comma, Word, tokens_of, solid}
 use Rattle.asm_syntax.specs.Operands as asm
-use Rattle.asm_syntax.specs.Operands.{before, separated, operands_of, operand_in}
+use Rattle.asm_syntax.specs.Operands.{separated, operands_of}
 use Rattle.asm_syntax.specs.Meanings.{meaning_of}
 use Rattle.asm_syntax.specs.Numbers.{is_name}
 use Rattle.asm_syntax.specs.Statements.{can_name, stated, with_label, line_in, line_of}

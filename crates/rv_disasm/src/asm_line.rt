@@ -1,6 +1,6 @@
 //! A line of assembler while it is made.
 
-ghost use Rattle.std.specs.Prelude.{ℕ, ◌≡◌, ◌+◌, ◌≤◌, ◌<◌, List, [], ◌∷◌, ◌++◌, length};
+ghost use Rattle.std.specs.Prelude.{ℕ, ◌≡◌, ◌+◌, ◌≤◌, ◌<◌, List, [], ◌++◌, length};
 ghost use Rattle.std.specs.Fmt.{signed_decimal};
 ghost use Rattle.xinu_base.specs.Hexadecimal as digit;
 ghost use Rattle.rv_disasm.specs.OperandTexts as spec;

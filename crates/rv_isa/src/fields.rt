@@ -1,6 +1,6 @@
 //! The fields of a word: register numbers, and the immediate of each form as a word in two's complement.
 
-ghost use Rattle.std.specs.Prelude.{◌≡◌, ◌<◌, ◌^◌};
+ghost use Rattle.std.specs.Prelude.{◌≡◌, ◌<◌};
 ghost use Rattle.xinu_model.specs.Isa.Instructions.{rd_of, rs1_of, rs2_of, imm_u, imm_j, imm_i, imm_b, imm_s};
 
 /// The destination register, bits 11 to 7.

@@ -1,10 +1,10 @@
 //! What one line of a schedule asks for.
 
-ghost use Rattle.std.specs.Prelude.{ℕ, ◌≡◌, ◌+◌, ◌≤◌, ◌<◌, ◌^◌, ◌++◌, List, Some, None, length, map, replicate, MatchOption, IfSome, OnOk};
+ghost use Rattle.std.specs.Prelude.{◌≡◌, ◌+◌, ◌≤◌, ◌<◌, ◌^◌, ◌++◌, Some, None, length, map, MatchOption, IfSome, OnOk};
 ghost use Rattle.std.specs.List.{All};
 ghost use Rattle.xinu_base.specs.declared.events.Event.TheVariants.{Key};
 ghost use Rattle.text_lines.specs.Lines.{tokens_of};
-ghost use Rattle.schedule_file.specs.LineKinds.{line_events, events_by, rounds};
+ghost use Rattle.schedule_file.specs.LineKinds.{line_events, events_by};
 ghost use Rattle.schedule_file.specs.Numbers as numbers;
 ghost use Rattle.schedule_file.specs.Repeats.{events_of, HasEvents, IsRepeat, repeats_events};
 

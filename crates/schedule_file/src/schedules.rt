@@ -1,6 +1,6 @@
 //! Schedules: the reading of a text, and the events one by one.
 
-ghost use Rattle.std.specs.Prelude.{ℕ, ◌≡◌, ◌+◌, ◌≤◌, ◌<◌, ◌++◌, true, false, List, [], ◌∷◌, length, drop, replicate, slice_get, Some, None, MatchOption, IfSome, IfOk, IfErr, MatchResult, OnOk};
+ghost use Rattle.std.specs.Prelude.{◌≡◌, ◌+◌, ◌≤◌, ◌<◌, ◌++◌, false, List, [], ◌∷◌, length, drop, replicate, slice_get, Some, None, MatchOption, IfOk, IfErr, MatchResult, OnOk};
 ghost use Rattle.std.specs.List.{All};
 ghost use Rattle.schedule_file.specs.ScheduleFiles.{reading, events_in, Names, is_bad, events_at};
 ghost use Rattle.schedule_file.specs.ScheduleFiles as files;

@@ -13,7 +13,7 @@ ghost use Rattle.xinu_model.specs.Semaphores.Counts.{count_of, is_good, most_tok
 ghost use Rattle.xinu_model.specs.Runs.{RunsTo};
 ghost use Rattle.xinu_model.specs.Sound.State.{IsSound};
 ghost use Rattle.xinu_model.specs.Sound.Tables.{CanRun, count_in};
-ghost use Rattle.xinu_model.specs.Tables.{Tables, semaphore_at, state_at};
+ghost use Rattle.xinu_model.specs.Tables.{semaphore_at, state_at};
 ghost use Rattle.scheduling_laws.specs.Exclusion.{IsUsedInPairs, all_entered, is_inside, nobody};
 ghost use Rattle.scheduling_laws.specs.Fairness.{IsReleased, WaitsBefore};
 ghost use Rattle.scheduling_laws.specs.Moments.{LeadTo, Moment, printed};

@@ -30,7 +30,7 @@ pub enum Signalled {
 }
 
 impl Sems {
-    ghost use Rattle.semaphores.specs.Counts.{Counts, SemaphoreTable, beside, entry_at, tokens_of, with_count};
+    ghost use Rattle.semaphores.specs.Counts.{Counts, beside, entry_at, tokens_of, with_count};
     ghost use Rattle.semaphores.specs.Signals.{after_signal, signal_answer};
 
     /// Takes a token of `sem`, or puts the current process, which runs, last among its waiters. True if and only if a token was

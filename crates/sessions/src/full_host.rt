@@ -1,8 +1,6 @@
 //! A host that runs out of memory.
 
-ghost use Rattle.std.specs.Prelude.{◌≡◌, ◌≢◌, ◌+◌, ◌≤◌, ◌<◌, ◌^◌, ⊤, take, vec_len, IfOk, MatchOption};
-ghost use Rattle.host_port.specs.Outside.{fetching, naming};
-ghost use Rattle.host_port.specs.HostCalls.{HasCause, Emits, MakesCall, NamesFile};
+ghost use Rattle.std.specs.Prelude.{◌≡◌, ◌<◌};
 ghost use Rattle.host_port.specs.QuietHost.{quiet_view};
 
 use host_port::{Channel, Host, HostFault, QuietMemoryHost};

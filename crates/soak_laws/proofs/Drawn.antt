@@ -1,5 +1,5 @@
 -- The events of a schedule: there are as many as were drawn, and each is one that may be.
-use Rattle.std.proofs.Common.{◌≡◌, ℕ, zero, suc, Bool, cond}
+use Rattle.std.proofs.Common.{ℕ, zero, suc, Bool, cond}
 use Rattle.std.specs.Prelude.{nat_lt}
 use Rattle.std.specs.List.{AllByRecursion}
 use Rattle.std.proofs.lemmas.Bool.{cond_both}

@@ -1,6 +1,6 @@
 -- What holds of a call before its event is closed, and what the calls have in common.
 pub mod Tokens
-use Rattle.std.proofs.Common.{◌≡◌, ◌≢◌, ℕ, zero, suc, ◌<◌, Bool, cond, length, refl, sym, subst, ◌∙◌, true, false, inl, Option, Some, None, ℤ}
+use Rattle.std.proofs.Common.{◌≡◌, ◌≢◌, ℕ, zero, suc, ◌<◌, Bool, cond, refl, sym, subst, ◌∙◌, true, false, inl, Option, Some, None, ℤ}
 use Rattle.std.proofs.lemmas.Bool.{cond_both}
 use Rattle.xinu_base.specs.declared.processes.Rest.{Rest}
 use Rattle.xinu_base.specs.declared.processes.Rest.TheVariants as rest
@@ -9,12 +9,12 @@ use Rattle.xinu_base.specs.declared.processes.State.TheVariants.{Free, Waiting}
 use Rattle.xinu_base.specs.declared.semaphores.Owner.{Owner}
 use Rattle.xinu_base.specs.declared.semaphores.Owner.TheVariants as owner
 use Rattle.table_laws.specs.Moves.{CanMove, FitsPlace, IsPlaceOf}
-use Rattle.xinu_model.specs.Machine.{Xinu, Answer, Returns, Waits, Gone, Panics, Silent, CallResult, refused, blocked, goes_on}
-use Rattle.table_laws.specs.Preserve.{FitsAnswer, IsPreserved, MayCall}
+use Rattle.xinu_model.specs.Machine.{Xinu, CallResult, refused, blocked, goes_on}
+use Rattle.table_laws.specs.Preserve.{IsPreserved, MayCall}
 use Rattle.xinu_model.specs.Semaphores.Counts.{with_tokens}
 use Rattle.xinu_model.specs.Semaphores.Waiting.{take_token, await}
 use Rattle.xinu_model.specs.Semaphores.Calls.{answers}
-use Rattle.xinu_model.specs.Sound.Tables.{HoldsFor, FitsMessage, FitsDevice, FitsOwner, IsForPort, IsInside, IsSoundTables}
+use Rattle.xinu_model.specs.Sound.Tables.{HoldsFor, FitsMessage, FitsDevice, FitsOwner, IsForPort, IsSoundTables}
 use Rattle.xinu_model.specs.Tables.{Tables, process_at, message_at, semaphore_at, Place, Nowhere, InSemaphore}
 use Rattle.table_laws.proofs.Tables.Changes.{sound_token_taken}
 use Rattle.table_laws.proofs.Tables.MoveTo.{within_table, state_move_same, inside_move}

@@ -1,6 +1,6 @@
 //! Lines cut off the front of a text, and tokens off the front of a line. A text is gone over once.
 
-ghost use Rattle.std.specs.Prelude.{ℕ, ◌≡◌, ◌<◌, ◌==◌, [], ◌∷◌, length, not, MatchOption, IfSome};
+ghost use Rattle.std.specs.Prelude.{◌≡◌, ◌<◌, ◌==◌, [], ◌∷◌, length, not, MatchOption, IfSome};
 ghost use Rattle.std.specs.List.{position};
 ghost use Rattle.text_lines.specs.Lines as lines;
 

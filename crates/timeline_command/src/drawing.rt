@@ -1,6 +1,6 @@
 //! The run that is drawn: its events are taken, and the picture is told of each.
 
-ghost use Rattle.std.specs.Prelude.{◌≡◌, ◌≤◌, ◌+◌, false, length, map, IfOk};
+ghost use Rattle.std.specs.Prelude.{◌≡◌, ◌≤◌, ◌+◌, false, length, map};
 ghost use Rattle.run_inputs.specs.InputFaults.{have_fault};
 
 use crate::parts::Drawing;

@@ -5,7 +5,7 @@ ghost use Rattle.lfs_check.specs.Disks.{block_put};
 ghost use Rattle.local_files.specs.Bounds.{left};
 ghost use Rattle.local_files.specs.Hands.{IsCall, system};
 ghost use Rattle.local_files.specs.Resting.{IsOnDisk};
-ghost use Rattle.local_files.specs.Standing.{GoesTo, HasEffect, Stands, call_bytes, gathered, given_bytes, served, wanted};
+ghost use Rattle.local_files.specs.Standing.{GoesTo, HasEffect, Stands, call_bytes, gathered, given_bytes, wanted};
 
 use lfs_check::block_at;
 use local_files::{BlockWork, FileCall, Files, Phase};

@@ -1,10 +1,9 @@
 -- A disk or a source that is fetched up to a byte more than a disk may have is judged as a whole.
-use Rattle.std.proofs.Common.{◌≡◌, ◌∙◌, ◌-◌, ◌*◌, ◌/◌, ◌%◌, ◌<◌, ◌≤◌, ◌&&◌, inl, inr, ℕ, Bool, true, false, cond, nat_eq, nat_le, List, [], ◌∷◌, ◌++◌, length, take, Option, Some, None, refl, sym, ap, arith}
+use Rattle.std.proofs.Common.{◌≡◌, ◌∙◌, ◌-◌, ◌/◌, ◌<◌, ◌≤◌, ◌&&◌, inl, inr, ℕ, Bool, true, false, List, [], ◌∷◌, ◌++◌, length, take, Option, Some, None, refl, sym, ap, arith}
 use Rattle.std.proofs.lemmas.Bool.{lt-leb}
 use Rattle.lfs_check.specs.declared.faults.DiskFault.{DiskFault}
-use Rattle.lfs_check.specs.Fields.{fields_of, geometry_of, is_version_2}
-use Rattle.lfs_check.specs.Faults.{either_fault, named, shape_fault}
-use Rattle.lfs_check.specs.Geometries.{fewest_blocks, first_data, most_blocks}
+use Rattle.lfs_check.specs.Faults.{named}
+use Rattle.lfs_check.specs.Geometries.{first_data}
 use Rattle.lfs_check.specs.Rules.{rule_0}
 use Rattle.lfs_layout.specs.Files.{File, blocks_for, have_room, padded_name, placed_files, total_for, with_set, without_name}
 use Rattle.lfs_layout.specs.Images.{opened}

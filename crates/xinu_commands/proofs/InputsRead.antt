@@ -1,12 +1,12 @@
 -- The inputs of a command were read, and then what is left is carried out.
-use Rattle.std.proofs.Common.{◌≡◌, ◌≢◌, ◌∙◌, ◌+◌, ◌<◌, ℕ, arith, false, List, [], ◌∷◌, ◌++◌, length, map, take, Option, Some, None, refl, sym, ap, subst, append_assoc, append-nil}
+use Rattle.std.proofs.Common.{◌≡◌, ◌≢◌, ◌∙◌, ◌+◌, ℕ, arith, false, List, [], ◌∷◌, ◌++◌, length, map, take, Option, Some, None, refl, sym, ap, subst, append_assoc, append-nil}
 use Rattle.std.proofs.Math.Seq.{take-append-add}
 use Rattle.std.proofs.lemmas.List.{length-append, length-map, map-append}
-use Rattle.std.specs.Prelude.{Result, Ok, Err}
+use Rattle.std.specs.Prelude.{Ok, Err}
 use Rattle.command_line.specs.Reading.{Text}
 use Rattle.given_disks.specs.Disks.{disks_of}
 use Rattle.host_port.proofs.Prints.{grown-grown}
-use Rattle.host_port.specs.Outside.{Outside, HostCall, counted, fetching, grown, with_calls}
+use Rattle.host_port.specs.Outside.{Outside, HostCall, fetching, grown}
 use Rattle.run_inputs.proofs.GoodImages.{good_images}
 use Rattle.run_inputs.specs.Fetching.{FetchesFiles, IsDecided, disks_up_to, fetches_due}
 use Rattle.run_inputs.specs.InputDisks.{empty_disk0, empty_disk1}
@@ -19,9 +19,9 @@ use Rattle.run_inputs.specs.declared.refusals.Refusal.{Refusal}
 use Rattle.run_inputs.specs.declared.refusals.Refusal.TheVariants as refusal
 use Rattle.xinu_base.specs.declared.events.Event.{Event}
 use Rattle.xinu_model.specs.Boot.{Disks, Loaded}
-use Rattle.xinu_commands.specs.Calls.{Due, due_by, input_fetches, unless_refused}
+use Rattle.xinu_commands.specs.Calls.{due_by, input_fetches, unless_refused}
 use Rattle.xinu_commands.specs.InputVerdict.{IsLater, Next, after_judged, left_verdict}
-use Rattle.xinu_commands.specs.Stages.{KeepsFiles, Stage}
+use Rattle.xinu_commands.specs.Stages.{Stage}
 use Rattle.xinu_commands.specs.Theorem.{Deserved, HasCalled, IsUnsent}
 use Rattle.xinu_commands.specs.Verdict.{Input, ScheduleInput, Disk0Input, Disk1Input, ImageInput, TraceInput, DiskInput, SourceInput, held_verdict}
 use Rattle.xinu_commands.specs.Work.{Does, Left, Refuses, Verdict, if_some}

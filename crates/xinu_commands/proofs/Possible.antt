@@ -1,10 +1,10 @@
 -- What the arguments make sure of: a check has one to eight images, and an action on a disk is possible.
-use Rattle.std.proofs.Common.{ℕ, ◌≡◌, ◌≢◌, ◌<◌, ◌≤◌, nat_lt, nat_le, Bool, true, false, ◌&&◌, if◌then◌else◌, List, [], ◌∷◌, length, bytes_eq, Option, Some, None, refl, subst, arith, codes}
+use Rattle.std.proofs.Common.{ℕ, ◌≡◌, nat_lt, nat_le, Bool, true, false, ◌&&◌, if◌then◌else◌, List, [], ◌∷◌, length, bytes_eq, Option, Some, None, subst, codes}
 use Rattle.std.specs.Prelude.{option_map}
 use Rattle.std.specs.List.{list_all}
 use Rattle.std.specs.Char.{is_ascii_digit}
 use Rattle.std.specs.Str.Parse.{digits_value}
-use Rattle.std.proofs.lemmas.Bool.{and_parts, ltb-true, leb-true}
+use Rattle.std.proofs.lemmas.Bool.{and_parts, leb-true}
 use Rattle.std.proofs.lemmas.Option.{option_and_then_some}
 use Rattle.lfs_layout.specs.Files.{is_text}
 use Rattle.command_line.specs.AsmArgs.{AsmFiles, asm_from}
@@ -13,9 +13,9 @@ use Rattle.command_line.specs.CheckArgs as trace
 use Rattle.command_line.specs.Commands as command
 use Rattle.command_line.specs.Commands.{Command, Run, Asm, Soak, Disk, command_from, command_of, commands, simple_command_of}
 use Rattle.command_line.specs.DiskArgs.{DiskAction, Mkfs, Ls, Get, Put, Check, Repair, action_from, action_of, actions, check_of, get_of, is_block_count, ls_of, mkfs_of, put_of, repair_of}
-use Rattle.command_line.specs.Reading.{Text, is_given, option_value, request_of}
+use Rattle.command_line.specs.Reading.{Text, option_value, request_of}
 use Rattle.command_line.specs.SoakArgs.{soak_from}
-use Rattle.command_line.specs.RunArgs.{DiskFiles, RunFiles, are_run_files, disk_files, is_file_name, may_be_disks, run_from, run_of}
+use Rattle.command_line.specs.RunArgs.{DiskFiles, RunFiles, are_run_files, is_file_name, run_from}
 use Rattle.run_inputs.proofs.RunCounts.{IsImageCount, count_of_files, simple_given, some_if}
 use Rattle.xinu_commands.specs.Stages.{IsBlockCount, IsPossible}
 

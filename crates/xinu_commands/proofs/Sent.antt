@@ -14,7 +14,7 @@ use Rattle.run_inputs.specs.Conversions.{host_refusal}
 use Rattle.xinu_commands.specs.Stages.{IsHostCause, SendsOutput, output_on, outputs_due}
 use Rattle.run_inputs.specs.Fetching.{IsDecided}
 use Rattle.xinu_commands.specs.Theorem.{HasCalled, IsPartSent, IsSent, namings}
-use Rattle.xinu_commands.specs.Work.{Output, output_of}
+use Rattle.xinu_commands.specs.Work.{output_of}
 use Rattle.run_inputs.specs.declared.refusals.Refusal.{Refusal}
 use Rattle.run_inputs.specs.declared.refusals.Refusal.TheVariants as refusal
 use Rattle.xinu_commands.proofs.Called.{undecided}

@@ -1,5 +1,5 @@
 -- What the inputs of a run deserve, and so those of a check of a trace: by what they are judged to be, which is in Judging.antt of the crate run_inputs.
-use Rattle.std.specs.Prelude.{ℕ, List, Option, Some, None, map}
+use Rattle.std.specs.Prelude.{ℕ, List, map}
 use Rattle.given_disks.specs.Disks.{disks_of}
 use Rattle.run_inputs.specs.InputFaults.{images_loaded}
 use Rattle.run_inputs.specs.Judging.{Judged, Refused, Accepted, judged}

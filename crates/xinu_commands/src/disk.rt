@@ -7,7 +7,6 @@ ghost use Rattle.command_line.specs.Names.{action_names};
 ghost use Rattle.host_port.specs.Outside.{fetching, naming};
 ghost use Rattle.host_port.specs.declared.host.Channel.TheVariants as channel;
 ghost use Rattle.lfs_layout.specs.Files.{is_text};
-ghost use Rattle.run_inputs.specs.Conversions.{check_refusal};
 ghost use Rattle.xinu_commands.specs.DiskVerdict as verdict;
 ghost use Rattle.run_inputs.specs.Fetching.{IsFetched, refusal_of};
 ghost use Rattle.xinu_commands.specs.Stages.{Fetches, IsPossible, Performs, SetsFile, Stage, no_fetches};

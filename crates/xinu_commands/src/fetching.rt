@@ -1,6 +1,6 @@
 //! The files that commands fetch.
 
-ghost use Rattle.std.specs.Prelude.{◌<◌, ◌^◌, IfOk};
+ghost use Rattle.std.specs.Prelude.{◌<◌, IfOk};
 ghost use Rattle.run_inputs.specs.Fetching.{IsFetched, refusal_of};
 ghost use Rattle.xinu_commands.specs.Stages.{Fetches};
 

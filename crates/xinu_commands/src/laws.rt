@@ -1,7 +1,7 @@
 //! What the exit statuses mean, and which files are asked for: laws about every answer of the top call. One more is about the files that
 //! `asm` writes. Each is the contract of a function that does nothing.
 
-ghost use Rattle.std.specs.Prelude.{◌≡◌, ◌≢◌, ◌↔◌, ◌==◌, ◌∷◌, [], ℕ, Bool, IsTrue, List, Option, Some, None, IsSome};
+ghost use Rattle.std.specs.Prelude.{◌≡◌, ◌≢◌, ◌↔◌, ◌==◌, ℕ, Bool, IsTrue, List, Option, Some, None, IsSome};
 ghost use Rattle.std.specs.List.{list_any};
 ghost use Rattle.command_line.specs.AsmArgs.{AsmFiles};
 ghost use Rattle.command_line.specs.CheckArgs.{CheckFiles};

@@ -16,11 +16,9 @@ pub mod Ports
 pub mod Processes
 pub mod Semaphores
 pub mod Table
-use Rattle.std.proofs.Common.{◌≡◌, ℕ, Bool, true, false, cond, List, Option, length, map, refl, sym, ap, subst, slice_index_or, ◌∙◌}
+use Rattle.std.proofs.Common.{◌≡◌, ℕ, Bool, true, false, cond, List, map, refl, sym, ap, subst, slice_index_or, ◌∙◌}
 use Rattle.std.proofs.lemmas.Bool.{false≢true, cond_both}
 use Rattle.xinu_base.specs.declared.registers.Hart.{Hart}
-use Rattle.xinu_base.specs.declared.processes.Rest.{Rest}
-use Rattle.xinu_base.specs.declared.semaphores.Owner.{Owner}
 use Rattle.xinu_model.specs.Console.State.{Console}
 use Rattle.xinu_model.specs.Devices.State.{Devices}
 use Rattle.xinu_model.specs.Files.Work.{FileWork}
@@ -32,12 +30,11 @@ use Rattle.xinu_model.specs.Names.Mounting.{NameRow}
 use Rattle.xinu_model.specs.Pools.Buffers.{BufferPool}
 use Rattle.xinu_model.specs.RawDisk.Requests.{RawDisk}
 use Rattle.xinu_model.specs.Ports.Queues.{MessagePort}
-use Rattle.xinu_model.specs.Sound.Tables.{IsInside}
 use Rattle.xinu_model.specs.Sound.State.{IsSound}
 use Rattle.xinu_model.specs.Tables.{Tables, state_at, is_free}
 use Rattle.xinu_laws.specs.Touches.{Reach, reach, stacks_of, range_of, KeepsDevices, KeepsFree, KeepsParts, Touches}
 use Rattle.part_laws.specs.FreeCells.{HasSameExtent}
-use Rattle.table_laws.proofs.Frame.{frame_same, frame_refl, frame_trans, frame_weaker}
+use Rattle.table_laws.proofs.Frame.{frame_same, frame_refl, frame_trans}
 
 -- Nobody dies if tables and registers stay,
 keeps_free_same : (s u : Xinu) → u.tables ≡ s.tables → u.harts ≡ s.harts → KeepsFree s u

@@ -1,6 +1,6 @@
 //! The lines of the devices: the console, the raw disk, and the files that devices have open.
 
-ghost use Rattle.std.specs.Prelude.{◌≡◌, ◌<◌, ◌≤◌, ◌+◌, ◌++◌, ◌∷◌, [], IfOk, Option, length, is_some};
+ghost use Rattle.std.specs.Prelude.{◌≡◌, ◌<◌, ◌≤◌, ◌+◌, ◌++◌, IfOk, Option, length, is_some};
 ghost use Rattle.std.specs.List.{list_any};
 ghost use Rattle.reference_boot.specs.Few.{AreFewFiles, IsSmallConsole};
 ghost use Rattle.xinu_model.specs.Files.Rest as rest;

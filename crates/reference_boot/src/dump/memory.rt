@@ -1,6 +1,6 @@
 //! The lines of the heap: its free blocks, by address.
 
-ghost use Rattle.std.specs.Prelude.{◌≡◌, ◌≤◌, ◌+◌, ◌*◌, ◌++◌, ◌∷◌, [], IfOk, length, map};
+ghost use Rattle.std.specs.Prelude.{◌≡◌, ◌≤◌, ◌+◌, ◌*◌, ◌++◌, ◌∷◌, [], IfOk, map};
 ghost use Rattle.reference_boot.specs.FirstBlocks.{FirstWithin};
 ghost use Rattle.xinu_model.specs.Heap.Cells as cells;
 ghost use Rattle.xinu_model.specs.Text as model;

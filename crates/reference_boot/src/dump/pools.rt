@@ -1,6 +1,6 @@
 //! The lines of the buffer pools.
 
-ghost use Rattle.std.specs.Prelude.{ℕ, ◌≡◌, ◌<◌, ◌≤◌, ◌+◌, ◌*◌, ◌++◌, ◌∷◌, [], IfOk, length, map, cond, not};
+ghost use Rattle.std.specs.Prelude.{ℕ, ◌≡◌, ◌<◌, ◌≤◌, ◌+◌, ◌*◌, ◌++◌, IfOk, length, map, cond, not};
 ghost use Rattle.xinu_base.specs.declared.lines.TranscriptLine.TheVariants as line;
 ghost use Rattle.xinu_model.specs.Pools.Buffers as pools;
 ghost use Rattle.xinu_model.specs.Text as model;

@@ -1,4 +1,4 @@
-use Rattle.std.proofs.Common.{◌≡◌, ◌∙◌, ap, sym}
+use Rattle.std.proofs.Common.{◌∙◌, ap, sym}
 use Rattle.xinu_base.specs.Constants.{SYSERR}
 use Rattle.xinu_laws.proofs.Rows.CallRows.{no_family}
 use Rattle.xinu_model.specs.Machine.{CallState, Returns}
