@@ -13,15 +13,15 @@
 //! | `send_to`, `take_message`, `listen`, `listen_for` | `message_moves.rt` |
 //! | `sleep`, `tick` | `clock_moves.rt` |
 //! | `lists`: the table of linked entries, which holds the ready list, the waiters and the sleepers (`linked`, `ready`, `waiters`, `sleepers`); the same lists, one process after another | `walks.rt` |
-//! | `equals`: whether other tables are equal (`equal`) | `comparing.rt` |
+//! | `equals`: whether other tables are equal (`equal`) | `equality.rt` |
 //!
 //! Each says that the new tables are those of the model's move on the old ones, and what it answers. `new` and `clone` alone take memory. The crate depends
 //! on `process_core`, `semaphores`, `delta_clock`, `messages` and `queue_table`, and on the laws of `table_laws`.
 #![tactic(auto)]
 
 mod clock_moves;
-mod comparing;
 mod current;
+mod equality;
 mod leaving;
 mod message_moves;
 mod process_moves;

@@ -1,7 +1,7 @@
 use Rattle.std.proofs.Common.{◌≡◌, ◌<◌, ℕ}
 use Rattle.queue_table.specs.Lists.{list_at, numbers}
 use Rattle.queue_table.specs.Table as table
-use Rattle.kernel_tables.proofs.comparing.are_same_queues.Given as goal
+use Rattle.kernel_tables.proofs.equality.are_same_queues.Given as goal
 
 -- as many semaphores have the same waiters
 abbrev pub invariant-loop-sem : goal.invariant-loop-sem
