@@ -1,6 +1,6 @@
 -- The count of a process's semaphore over a stretch of a run.
 use Rattle.std.proofs.Common.{◌≡◌, ⊎_elim, ℕ, ◌+◌, ◌==◌, ◌&&◌, true, false, List, [], ◌∷◌, ◌++◌, Option, Some, None, refl, sym, ap, subst, ◌∙◌, arith, ℤ, pos}
-use Rattle.std.specs.Prelude.{◌+ℤ◌, slice_index}
+use Rattle.std.specs.Prelude.{◌+ℤ◌, map, slice_index}
 use Rattle.std.proofs.lemmas.Bool.{and_from, and_parts, cond_both, eq-eqb, eqb-true, or_parts, true≢false}
 use Rattle.std.proofs.lemmas.Int.{ints}
 use Rattle.std.proofs.lemmas.List.{append-nil}
@@ -93,20 +93,23 @@ stretch_counted sem (m ∷ ms) old new k good lead stays =
     (dead_in m.after.tables (semaphore_at m.before.tables sem)) (killed_waiters sem ms) one.adds rest
     ∙ ap (λ (s : Xinu). count_of (semaphore_at s.tables sem) +ℤ pos (signals sem (m ∷ ms) + killed_waiters sem (m ∷ ms))) lead.0
 
--- A run is a stretch.
-abbrev IsStretch : Xinu → List TranscriptLine → Xinu → Type 0
-IsStretch old lines new = (ms : List Moment) × (LeadTo old ms new × (lines ≡ printed ms))
+-- A run is a stretch, of its events up to its end.
+abbrev IsStretch : Xinu → List Event → List TranscriptLine → Xinu → Type 0
+IsStretch old events lines new =
+    (ms : List Moment) × (LeadTo old ms new × (lines ≡ printed ms) × (later : List Event) × (events ≡ map (λ (m : Moment). m.event) ms ++ later))
 
 pub runs_lead : (events : List Event) (old : Xinu) (lines : List TranscriptLine) (new : Xinu) (end : End) → RunsTo old events lines new end
-    → (ms : List Moment) × (LeadTo old ms new × (lines ≡ printed ms))
-runs_lead [] old lines new end h = ([], (h.1, h.0))
+    → (ms : List Moment) × (LeadTo old ms new × (lines ≡ printed ms) × (later : List Event) × (events ≡ map (λ (m : Moment). m.event) ms ++ later))
+runs_lead [] old lines new end h = ([], (h.1, h.0, [], refl))
 runs_lead (e ∷ events) old lines new end h =
     by_end (end_with (panics_in old e) (is_over h.0)) (λ rest r. runs_lead events h.0 rest new end r) h.3
   where
     one : Moment
     one = record { before = old; event = e; lines = h.1; after = h.0 }
 
-    by_end : (found : Option End) → ((rest : List TranscriptLine) → RunsTo h.0 events rest new end → IsStretch h.0 rest new)
-        → Follows found (λ rest. RunsTo h.0 events rest new end) h.1 lines h.0 new end → IsStretch old lines new
-    by_end (Some last) go f = (one ∷ [], ((refl, h.2, f.1), f.0 ∙ sym (append-nil h.1)))
-    by_end None go f = let rest = go f.0 f.1 in (one ∷ rest.0, ((refl, h.2, rest.1.0), f.2 ∙ ap (λ l. h.1 ++ l) rest.1.1))
+    by_end : (found : Option End) → ((rest : List TranscriptLine) → RunsTo h.0 events rest new end → IsStretch h.0 events rest new)
+        → Follows found (λ rest. RunsTo h.0 events rest new end) h.1 lines h.0 new end → IsStretch old (e ∷ events) lines new
+    by_end (Some last) go f = (one ∷ [], ((refl, h.2, f.1), f.0 ∙ sym (append-nil h.1), events, refl))
+    by_end None go f =
+        let rest = go f.0 f.1 in
+        (one ∷ rest.0, ((refl, h.2, rest.1.0), f.2 ∙ ap (λ l. h.1 ++ l) rest.1.1, rest.1.2, ap (λ l. e ∷ l) rest.1.3))

@@ -1,6 +1,6 @@
 //! In which order those who wait on a semaphore go on, what its count is, and that it excludes.
 
-ghost use Rattle.std.specs.Prelude.{◌≡◌, ◌≢◌, ◌⊎◌, ◌+◌, ◌+ℤ◌, ◌<◌, ℕ, List, false, int_lt, neg_ℤ, pos, true};
+ghost use Rattle.std.specs.Prelude.{◌≡◌, ◌≢◌, ◌⊎◌, ◌+◌, ◌+ℤ◌, ◌<◌, ◌++◌, ℕ, List, map, false, int_lt, neg_ℤ, pos, true};
 ghost use Rattle.xinu_base.specs.declared.events.End.{End};
 ghost use Rattle.xinu_base.specs.declared.events.Event.{Event};
 ghost use Rattle.xinu_base.specs.declared.lines.TranscriptLine.{TranscriptLine};
@@ -44,7 +44,8 @@ pub fn counts_follow_the_calls()
 /// A run is a stretch of moments, one for each event up to its end, that print its lines.
 pub fn runs_are_stretches()
     ensures { (events : List Event) (old : Xinu) (lines : List TranscriptLine) (new : Xinu) (end : End) →
-        RunsTo old events lines new end → (ms : List Moment) × (LeadTo old ms new × (lines ≡ printed ms)) }
+        RunsTo old events lines new end →
+        (ms : List Moment) × (LeadTo old ms new × (lines ≡ printed ms) × (later : List Event) × (events ≡ map (λ (m : Moment). m.event) ms ++ later)) }
 {}
 
 /// Over a stretch in which nobody gives up a process's semaphore or resets it, its count and the `wait`s that were called are what the count was,
