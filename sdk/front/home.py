@@ -43,3 +43,12 @@ def version():
     """The version, as the page of changes begins with it."""
     with open(os.path.join(TOP, "CHANGELOG.md"), encoding="utf-8") as file:
         return re.search(r"^## (\S+)", file.read(), re.M)[1]
+
+
+def typed_name(folder="."):
+    """How `xinu` is typed in a folder: by its name if the PATH leads to it."""
+    here, found = os.path.join(SDK, "xinu"), shutil.which("xinu")
+    if found and os.path.samefile(found, here):
+        return "xinu"
+    is_inside = os.path.commonpath([TOP, os.path.abspath(folder)]) == TOP
+    return os.path.relpath(here, folder) if is_inside else here

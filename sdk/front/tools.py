@@ -50,3 +50,8 @@ def install(tools):
 def missing(tool):
     """Why something that needs a tool can't be done, and what mends it."""
     return f"no {tool.name} ({install([tool])})" if tool.package else f"no {tool.name} (install the toolchain of Rattle)"
+
+
+def lacks(tools):
+    """The first of some tools that isn't there, as a reason, or none."""
+    return next((missing(tool) for tool in tools if not tool.is_there()), None)
