@@ -14,11 +14,12 @@ and those that begin with `#` say nothing."""
 import json
 import os
 import resource
-import shutil
 import signal
 import subprocess
 import sys
 import tempfile
+
+from front.home import find_program
 
 MOST_OUTPUT = 64 << 20  # bytes that a command may write
 MOST_MEMORY = 2 << 30  # bytes of its addresses
@@ -165,8 +166,8 @@ def limited(words, folder, seconds):
 
 
 def program():
-    """The path of the program that runs images: $XINU_RUN, or the one in the PATH."""
-    found = shutil.which(os.environ.get("XINU_RUN", "xinu_run"))
+    """The path of the program that runs images: $XINU_RUN, the one that was built here, or the one in the PATH."""
+    found = find_program()
     if not found:
         sys.exit("xinu_run isn't there: build it (docs/FIRST_PROGRAM.md), and put its folder into the PATH")
     return os.path.abspath(found)
