@@ -1,0 +1,9 @@
+pub mod Claims
+pub mod Images
+pub mod Kept
+pub mod Obeying
+pub mod Outlines
+pub mod PlaceCheck
+pub mod Running
+pub mod SystemCheck
+pub mod Terms

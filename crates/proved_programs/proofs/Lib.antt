@@ -1,0 +1,4 @@
+pub mod Counted
+pub mod Loaded
+pub mod Lost
+pub mod Sourced
