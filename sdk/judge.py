@@ -7,6 +7,7 @@ A line of a table is a row, and after ` # ` the words for what is wrong if the r
     text "TEXT"     the console shows TEXT next
     find "TEXT"     the console shows TEXT later on
     hide "TEXT"     the console doesn't show TEXT before what the next row `text` or `find` finds, or before the end
+    calls P NAME N  process P, or any if P is `*`, makes at least N calls NAME in the whole run
 
 TEXT is written as in JSON. What the console shows is the bytes of the `con` lines, one after another; the rows for it and those for lines
 are looked for apart, each kind in its order. A row `console "TEXT"` is no demand: it says what the console shows all in all. Empty lines
@@ -39,7 +40,7 @@ class Row:
         self.kind, _, rest = head.strip().partition(" ")
         self.is_text = self.kind in ("text", "find", "hide", "console")
         self.is_refusal = self.kind in ("not", "hide")
-        self.what = json.loads(rest) if self.is_text else rest if self.kind == "not" else head.strip()
+        self.what = json.loads(rest) if self.is_text else rest if self.kind in ("not", "calls") else head.strip()
         state = "is there, and must not be" if self.is_refusal else "isn't there"
         self.words = words.strip() or f"line {number} of the table {state}: {self.what}"
 
@@ -83,6 +84,13 @@ def fits(pattern, line):
     return len(wanted) == len(words) and all(want in ("*", word) for want, word in zip(wanted, words))
 
 
+def calls_in(lines, wanted):
+    """Whether there are the calls that a row `calls` asks for."""
+    process, name, least = wanted.split()
+    made = (line.split()[:3] for line in lines if line.startswith("call "))
+    return sum(call == name and process in ("*", caller) for _, caller, call in made) >= int(least)
+
+
 def shown(lines):
     """The text that the console sends in these lines, a character for each byte."""
     return bytes(int(line[4:6], 16) for line in lines if line.startswith("con ")).decode("latin-1")
@@ -101,6 +109,11 @@ def judged(rows, lines):
     cursors = {False: Cursor(lines), True: Cursor(shown(lines))}
     total = 0
     for row in rows:
+        if row.kind == "calls":
+            if not calls_in(lines, row.what):
+                return total, row.words
+            total += 1
+            continue
         cursor = cursors[row.is_text]
         if row.is_refusal:
             cursor.refusals.append(row)
@@ -128,6 +141,12 @@ def left_over(lines):
             semaphore, doing = semaphores.get(words[1]), STATES.get(words[2], words[2])
             doing = doing if semaphore is None else OF_KERNEL.get(semaphore, f"{doing} {semaphore}")
             yield f"process {words[1]}, {json.dumps(name)}, {doing}"
+
+
+def standstill(lines):
+    """Words for a run of several processes that was over before any of them ended: they tell more than the row that it fails."""
+    is_over = lines and lines[-1] == "end schedule" and not any(fits("call * exit", line) for line in lines)
+    return "no process has ended, and " if is_over and len(list(left_over(lines))) > 1 else ""
 
 
 def endings(lines):

@@ -2,7 +2,7 @@
 import os
 import shutil
 
-from judge import MOST_OUTPUT, judged, limited, run, table_of
+from judge import MOST_OUTPUT, judged, limited, run, standstill, table_of
 
 from .draws import schedules_of
 from .places import LABS
@@ -38,7 +38,7 @@ def run_through(rows, schedule, place, seconds):
     if trouble:
         return 0, trouble
     count, said = judged(rows, lines)
-    return count, said and said + trapped(lines)
+    return count, said and standstill(lines) + said + trapped(lines)
 
 
 def row_results(rows, held):
