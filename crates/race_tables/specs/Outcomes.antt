@@ -1,5 +1,5 @@
 -- What one sees of a run.
-use Rattle.std.specs.Prelude.{ℕ, Bool, true, false, ◌&&◌, List, [], ◌∷◌, ◌++◌, codes, bytes_eq}
+use Rattle.std.specs.Prelude.{ℕ, Bool, true, false, not, ◌&&◌, List, [], ◌∷◌, ◌++◌, codes, bytes_eq}
 use Rattle.std.specs.List.{filter, flat_map}
 use Rattle.text_lines.specs.Lines.{lines_of, tokens_of}
 use Rattle.xinu_base.specs.declared.events.End.{End}
@@ -14,12 +14,17 @@ begin_with word (token ∷ tokens) = bytes_eq token word
 abbrev pub fed : List ℕ → List ℕ
 fed line = line ++ 10 ∷ []
 
--- the lines of a text that begin with a word
-unfoldable pub kept : List ℕ → List ℕ → List ℕ
-kept word text = flat_map fed (filter (λ line. begin_with word (tokens_of line)) (lines_of text))
+-- whether a line of the tables is that of the null process
+abbrev pub is_null_line : List (List ℕ) → Bool
+is_null_line (word ∷ number ∷ rest) = bytes_eq word (codes "proc") && bytes_eq number (codes "0")
+is_null_line tokens = false
 
--- an outcome: the lines of the bytes that the console sent, those of the traps, those of the processes that are left and of what they wait
--- for, and how the run ended
+-- the lines of a text that begin with a word, but that of the null process, which is always left
+unfoldable pub kept : List ℕ → List ℕ → List ℕ
+kept word text = flat_map fed (filter (λ line. begin_with word (tokens_of line) && not (is_null_line (tokens_of line))) (lines_of text))
+
+-- an outcome: the lines of the bytes that the console sent, those of the traps, those of the processes that are left, the null process apart, and
+-- of what they wait for, and how the run ended
 pub record Outcome : Type 0 where
   pub console : List ℕ
   pub traps : List ℕ

@@ -1,6 +1,6 @@
 //! The outcome of a run, which is taken from what the run printed.
 
-ghost use Rattle.std.specs.Prelude.{◌≡◌, ◌↔◌, ◌++◌, true, bytes_eq, IfOk, OnOk};
+ghost use Rattle.std.specs.Prelude.{◌≡◌, ◌↔◌, ◌++◌, ◌&&◌, not, true, bytes_eq, IfOk, OnOk};
 ghost use Rattle.race_tables.specs.Outcomes as spec;
 ghost use Rattle.text_lines.specs.Lines.{tokens_of};
 
@@ -54,7 +54,7 @@ impl Outcome {
         &self.traps
     }
 
-    /// The lines of the processes that are left, and of those that wait for a semaphore.
+    /// The lines of the processes that are left, the null process apart, and of those that wait for a semaphore.
     pub fn left(&self) -> &[u8]
         ensures left { result.now ≡ self.now.left }
     {
@@ -121,7 +121,7 @@ fn outcome_of(alloc: Global, printed: &[u8], tables: &[u8], end: End) -> Result<
     })
 }
 
-// The lines of a text that begin with this word.
+// The lines of a text that begin with this word, but that of the null process.
 fn kept(alloc: Global, text: &[u8], word: &[u8]) -> Result<Vec<u8>, AllocError>
     ensures kept { IfOk result (λ lines. lines.items ≡ spec.kept word.now text.now) }
 {
@@ -130,14 +130,14 @@ fn kept(alloc: Global, text: &[u8], word: &[u8]) -> Result<Vec<u8>, AllocError>
     Ok(lines)
 }
 
-// Appends the lines of a text that begin with this word.
+// Appends the lines of a text that begin with this word, but that of the null process.
 fn push_kept(lines: &mut Vec<u8>, text: &[u8], word: &[u8]) -> Result<(), AllocError>
     ensures kept { OnOk result (lines.new.items ≡ lines.old.items ++ spec.kept word.now text.now) }
 {
     let mut rest = text;
     while !rest.is_empty() {
         let (line, next) = first_line(rest);
-        if begins_with(line, word) {
+        if is_kept(line, word) {
             push_line(lines, line)?;
         }
         rest = next;
@@ -154,6 +154,13 @@ fn push_line(lines: &mut Vec<u8>, line: &[u8]) -> Result<(), AllocError>
     Ok(())
 }
 
+// Whether a line begins with this word, and isn't that of the null process.
+fn is_kept(line: &[u8], word: &[u8]) -> bool
+    ensures kept { result ≡ spec.begin_with word.now (tokens_of line.now) && not (spec.is_null_line (tokens_of line.now)) }
+{
+    begins_with(line, word) && !is_null_line(line)
+}
+
 // Whether the first word of a line is this one.
 fn begins_with(line: &[u8], word: &[u8]) -> bool
     ensures begins { result ≡ spec.begin_with word.now (tokens_of line.now) }
@@ -162,4 +169,24 @@ fn begins_with(line: &[u8], word: &[u8]) -> bool
         Some((token, _)) => token == word,
         None => false,
     }
+}
+
+// Whether a line is that of the null process.
+fn is_null_line(line: &[u8]) -> bool
+    ensures null { result ≡ spec.is_null_line (tokens_of line.now) }
+{
+    let Some((word, rest)) = first_token(line) else {
+        return false;
+    };
+    let Some((number, _)) = first_token(rest) else {
+        return false;
+    };
+    is_word(word, "proc") && is_word(number, "0")
+}
+
+// Whether a token is this word.
+fn is_word(token: &[u8], word: &str) -> bool
+    ensures word { result ≡ bytes_eq token.now word.now }
+{
+    token == word.as_bytes()
 }

@@ -3,7 +3,6 @@ use Rattle.std.proofs.Common.{◌≡◌, ◌∙◌, ℕ, ◌≤◌, ◌<◌, ◌
 use Rattle.std.specs.Prelude.{Result, Ok, Err, MatchResult}
 use Rattle.std.specs.List.{sum}
 use Rattle.std.proofs.lemmas.List.{length-map}
-use Rattle.host_port.specs.HostCalls.{Rose}
 use Rattle.host_port.specs.Outside.{Outside, appended, counted}
 use Rattle.host_port.specs.declared.host.Channel.TheVariants.{Out}
 use Rattle.kernel_boot.specs.declared.initialize.BootFault.{BootFault}
@@ -21,13 +20,13 @@ use Rattle.run_inputs.specs.declared.refusals.Refusal.TheVariants as refusal
 use Rattle.xinu_base.specs.declared.events.Event.{Event}
 use Rattle.xinu_model.specs.Boot.{Disks, Loaded}
 use Rattle.races_command.specs.Printed.{table_text}
-use Rattle.races_command.specs.Searching.{BreaksOff, Searched, Searches, SendsPart, StopsAtFile, StopsIn, ended_by, found_file, with_file}
+use Rattle.races_command.specs.Searching.{BreaksOff, IsBreak, Searched, Searches, SendsPart, StopsIn, ended_by, found_file, with_file}
 use Rattle.races_command.specs.declared.faults.Fault.{Fault}
 use Rattle.races_command.specs.declared.faults.Fault.TheVariants as fault
 use Rattle.races_command.specs.Judged.{IsLongOrMemory}
 use Rattle.races_command.specs.Theorem.{Goes}
 use Rattle.races_command.specs.Words.{Asked}
-use Rattle.races_command.proofs.Sending.{both_sent, part_of, sends_before, sends_nothing, sends_whole}
+use Rattle.races_command.proofs.Sending.{both_sent, sends_before, sends_nothing, sends_whole, sends_with}
 
 -- the counts of a table of placements fit
 total : (table : List Row) (runs : List Run) → table ≡ rows runs → sum (map (λ row. row.count) table) ≡ length runs
@@ -54,7 +53,7 @@ breaks_at_once s h =
       are_all = false;
       table = [];
       explores = record { tried = start.tried; left = placements s.most s.within; split = start.split; explores = start.explores };
-      sends = sends_nothing (table_text false s.most s.within []) h;
+      sends = sends_nothing (table_text false s.most s.within []) None h;
     }
 
 -- the images didn't boot
@@ -66,88 +65,95 @@ boot_ends s boot.NoMemory h is = breaks_at_once s h
 -- the table was sent, and then the file
 pub finds : (s : Searched) (table : List Row) (old mid new : Outside) → Explores s.disks s.images s.base (placements s.most s.within) table
     → mid ≡ counted (appended old Out (table_text true s.most s.within table)) mid.faults
-    → new ≡ counted (with_file mid (found_file s.found s.base table)) new.faults → Searches s None old new
+    → new ≡ counted (with_file mid (found_file s.found s.outcome s.base table)) new.faults → Searches s None old new
 finds s table old mid new explores sent written = record {
   table = table;
   explores = explores;
-  sent = both_sent (table_text true s.most s.within table) (found_file s.found s.base table) old mid new sent written;
+  sent = both_sent (table_text true s.most s.within table) (found_file s.found s.outcome s.base table) old mid new sent written;
 }
 
-later_rose : (a b c : ℕ) → a ≤ b → Rose b c → Rose a c
-later_rose a b c le rose = omega (arith, le, rose)
+-- sending was broken off
+stops_so : (s : Searched) (table : List Row) (f : Fault) (old new : Outside) → Explores s.disks s.images s.base (placements s.most s.within) table
+    → SendsPart (table_text true s.most s.within table) (found_file s.found s.outcome s.base table) old new → IsBreak f old.faults new.faults → Searches s (Some f) old new
+stops_so s table (fault.Refused refusal.NoMemory) old new explores sends cause = record { are_all = true; table = table; explores = explores; sends = sends }
+stops_so s table (fault.Refused refusal.HostFault) old new explores sends cause = (record { are_all = true; table = table; explores = explores; sends = sends }, cause)
+stops_so s table (fault.Refused refusal.Usage) old new explores sends cause = absurd cause
+stops_so s table (fault.Refused (refusal.Image i k)) old new explores sends cause = absurd cause
+stops_so s table (fault.Refused (refusal.Schedule l)) old new explores sends cause = absurd cause
+stops_so s table (fault.Refused (refusal.Disk d b r)) old new explores sends cause = absurd cause
+stops_so s table (fault.Refused (refusal.Overlap i)) old new explores sends cause = absurd cause
+stops_so s table (fault.Refused (refusal.NoRoom i)) old new explores sends cause = absurd cause
+stops_so s table (fault.Refused (refusal.Asm l k)) old new explores sends cause = absurd cause
+stops_so s table (fault.Refused refusal.TraceTooLong) old new explores sends cause = absurd cause
+stops_so s table (fault.Refused refusal.NoSuchFile) old new explores sends cause = absurd cause
+stops_so s table (fault.Refused refusal.DoesNotFit) old new explores sends cause = absurd cause
+stops_so s table fault.TooMany old new explores sends cause = absurd cause
+stops_so s table fault.TooLong old new explores sends cause = absurd cause
+stops_so s table fault.TooFar old new explores sends cause = absurd cause
 
 -- sending the table was broken off
-pub table_stops : (s : Searched) (table : List Row) (f : Fault) (old new : Outside) → Explores s.disks s.images s.base (placements s.most s.within) table
-    → StopsIn (table_text true s.most s.within table) f old new → Searches s (Some f) old new
-table_stops s table (fault.Refused refusal.NoMemory) old new explores stops = record { are_all = true; table = table; explores = explores; sends = stops }
-table_stops s table (fault.Refused refusal.HostFault) old new explores stops = (record { are_all = true; table = table; explores = explores; sends = stops.0 }, stops.1)
-table_stops s table (fault.Refused refusal.Usage) old new explores stops = absurd stops
-table_stops s table (fault.Refused (refusal.Image i k)) old new explores stops = absurd stops
-table_stops s table (fault.Refused (refusal.Schedule l)) old new explores stops = absurd stops
-table_stops s table (fault.Refused (refusal.Disk d b r)) old new explores stops = absurd stops
-table_stops s table (fault.Refused (refusal.Overlap i)) old new explores stops = absurd stops
-table_stops s table (fault.Refused (refusal.NoRoom i)) old new explores stops = absurd stops
-table_stops s table (fault.Refused (refusal.Asm l k)) old new explores stops = absurd stops
-table_stops s table (fault.Refused refusal.TraceTooLong) old new explores stops = absurd stops
-table_stops s table (fault.Refused refusal.NoSuchFile) old new explores stops = absurd stops
-table_stops s table (fault.Refused refusal.DoesNotFit) old new explores stops = absurd stops
-table_stops s table fault.TooMany old new explores stops = absurd stops
-table_stops s table fault.TooLong old new explores stops = absurd stops
-table_stops s table fault.TooFar old new explores stops = absurd stops
+pub table_stops : (s : Searched) (table one : List Row) (f : Fault) (old new : Outside) → Explores s.disks s.images s.base (placements s.most s.within) table
+    → one ≡ table → StopsIn (table_text true s.most s.within one) None f old new → Searches s (Some f) old new
+table_stops s table one f old new explores same stops =
+    let whole = subst (λ (t : List Row). StopsIn (table_text true s.most s.within t) None f old new) same stops in
+    stops_so s table f old new explores (sends_with (table_text true s.most s.within table) (found_file s.found s.outcome s.base table) old new whole.sends) whole.cause
+
+-- the host failed later
+breaks_later : (f : Fault) (a b c : ℕ) → a ≤ b → IsBreak f b c → IsBreak f a c
+breaks_later (fault.Refused refusal.NoMemory) a b c le cause = cause
+breaks_later (fault.Refused refusal.HostFault) a b c le cause = omega (arith, le, cause)
+breaks_later (fault.Refused refusal.Usage) a b c le cause = cause
+breaks_later (fault.Refused (refusal.Image i k)) a b c le cause = cause
+breaks_later (fault.Refused (refusal.Schedule l)) a b c le cause = cause
+breaks_later (fault.Refused (refusal.Disk d k r)) a b c le cause = cause
+breaks_later (fault.Refused (refusal.Overlap i)) a b c le cause = cause
+breaks_later (fault.Refused (refusal.NoRoom i)) a b c le cause = cause
+breaks_later (fault.Refused (refusal.Asm l k)) a b c le cause = cause
+breaks_later (fault.Refused refusal.TraceTooLong) a b c le cause = cause
+breaks_later (fault.Refused refusal.NoSuchFile) a b c le cause = cause
+breaks_later (fault.Refused refusal.DoesNotFit) a b c le cause = cause
+breaks_later fault.TooMany a b c le cause = cause
+breaks_later fault.TooLong a b c le cause = cause
+breaks_later fault.TooFar a b c le cause = cause
 
 -- a file that isn't written whole leaves what was sent before it
-whole_then : (text : List ℕ) (f : Fault) (old mid new : Outside) → mid ≡ counted (appended old Out text) mid.faults → old.faults ≤ mid.faults → StopsIn [] f mid new → StopsIn text f old new
-whole_then text (fault.Refused refusal.NoMemory) old mid new is later stops = sends_before text old mid new is later stops
-whole_then text (fault.Refused refusal.HostFault) old mid new is later stops = (sends_before text old mid new is later stops.0, later_rose _ _ _ later stops.1)
-whole_then text (fault.Refused refusal.Usage) old mid new is later stops = absurd stops
-whole_then text (fault.Refused (refusal.Image i k)) old mid new is later stops = absurd stops
-whole_then text (fault.Refused (refusal.Schedule l)) old mid new is later stops = absurd stops
-whole_then text (fault.Refused (refusal.Disk d b r)) old mid new is later stops = absurd stops
-whole_then text (fault.Refused (refusal.Overlap i)) old mid new is later stops = absurd stops
-whole_then text (fault.Refused (refusal.NoRoom i)) old mid new is later stops = absurd stops
-whole_then text (fault.Refused (refusal.Asm l k)) old mid new is later stops = absurd stops
-whole_then text (fault.Refused refusal.TraceTooLong) old mid new is later stops = absurd stops
-whole_then text (fault.Refused refusal.NoSuchFile) old mid new is later stops = absurd stops
-whole_then text (fault.Refused refusal.DoesNotFit) old mid new is later stops = absurd stops
-whole_then text fault.TooMany old mid new is later stops = absurd stops
-whole_then text fault.TooLong old mid new is later stops = absurd stops
-whole_then text fault.TooFar old mid new is later stops = absurd stops
-
 pub file_stops : (s : Searched) (table : List Row) (f : Fault) (old mid new : Outside) → Explores s.disks s.images s.base (placements s.most s.within) table
-    → mid ≡ counted (appended old Out (table_text true s.most s.within table)) mid.faults → old.faults ≤ mid.faults → StopsIn [] f mid new → Searches s (Some f) old new
+    → mid ≡ counted (appended old Out (table_text true s.most s.within table)) mid.faults → old.faults ≤ mid.faults → StopsIn [] (found_file s.found s.outcome s.base table) f mid new → Searches s (Some f) old new
 file_stops s table f old mid new explores is later stops =
-    table_stops s table f old new explores (whole_then (table_text true s.most s.within table) f old mid new is later stops)
+    stops_so s table f old new explores (sends_before (table_text true s.most s.within table) (found_file s.found s.outcome s.base table) old mid new is later stops.sends)
+    (breaks_later f old.faults mid.faults new.faults later stops.cause)
 
 -- the table was sent; then the file was written, or that was broken off
 pub file_ends : {T : Type 0} (s : Searched) (table one two : List Row) (r : Result T Fault) (old mid new : Outside)
     → Explores s.disks s.images s.base (placements s.most s.within) table → one ≡ table → two ≡ table
     → mid ≡ counted (appended old Out (table_text true s.most s.within one)) mid.faults → old.faults ≤ mid.faults
-    → MatchResult r (λ _. new ≡ counted (with_file mid (found_file s.found s.base two)) new.faults) (λ f. StopsAtFile f mid new)
+    → MatchResult r (λ _. new ≡ counted (with_file mid (found_file s.found s.outcome s.base two)) new.faults) (λ f. StopsIn [] (found_file s.found s.outcome s.base two) f mid new)
     → Searches s (ended_by r) old new
 file_ends s table one two (Ok x) old mid new explores first second sent later written =
     finds s table old mid new explores
     (sent ∙ ap (λ (t : List Row). counted (appended old Out (table_text true s.most s.within t)) mid.faults) first)
-    (written ∙ ap (λ (t : List Row). counted (with_file mid (found_file s.found s.base t)) new.faults) second)
+    (written ∙ ap (λ (t : List Row). counted (with_file mid (found_file s.found s.outcome s.base t)) new.faults) second)
 file_ends s table one two (Err f) old mid new explores first second sent later stops =
     file_stops s table f old mid new explores
-    (sent ∙ ap (λ (t : List Row). counted (appended old Out (table_text true s.most s.within t)) mid.faults) first) later stops
+    (sent ∙ ap (λ (t : List Row). counted (appended old Out (table_text true s.most s.within t)) mid.faults) first) later
+    (subst (λ (t : List Row). StopsIn [] (found_file s.found s.outcome s.base t) f mid new) second stops)
 
 -- memory ran out, and the table so far was sent, or a part of it
 pub some_ends : {T : Type 0} (s : Searched) (table one : List Row) (r : Result T Fault) (old new : Outside)
     → ExploresSome s.disks s.images s.base (placements s.most s.within) table → one ≡ table
-    → MatchResult r (λ _. new ≡ counted (appended old Out (table_text false s.most s.within one)) new.faults) (λ f. StopsIn (table_text false s.most s.within one) f old new)
+    → MatchResult r (λ _. new ≡ counted (appended old Out (table_text false s.most s.within one)) new.faults) (λ f. StopsIn (table_text false s.most s.within one) None f old new)
     → old.faults ≤ new.faults → BreaksOff s old new
 some_ends s table one (Ok x) old new explores same sent later = record {
   are_all = false;
   table = table;
   explores = explores;
-  sends = subst (λ (t : List Row). SendsPart (table_text false s.most s.within t) old new) same (sends_whole (table_text false s.most s.within one) old new sent later);
+  sends = subst (λ (t : List Row). SendsPart (table_text false s.most s.within t) None old new) same (sends_whole (table_text false s.most s.within one) None old new sent later);
 }
 some_ends s table one (Err f) old new explores same stops later = record {
   are_all = false;
   table = table;
   explores = explores;
-  sends = subst (λ (t : List Row). SendsPart (table_text false s.most s.within t) old new) same (part_of (table_text false s.most s.within one) f old new stops);
+  sends = subst (λ (t : List Row). SendsPart (table_text false s.most s.within t) None old new) same stops.sends;
 }
 
 -- the schedule is too long, or memory ran out

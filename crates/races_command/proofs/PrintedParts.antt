@@ -1,9 +1,9 @@
 -- The parts of a printed table, step by step.
-use Rattle.std.proofs.Common.{◌≡◌, ◌∙◌, ℕ, ◌==◌, ◌≤◌, true, false, not, List, [], ◌∷◌, ◌++◌, codes, length, take, refl, sym, ap, append_assoc, arith}
-use Rattle.std.specs.List.{filter, flat_map}
+use Rattle.std.proofs.Common.{◌≡◌, ◌∙◌, ℕ, ◌==◌, ◌≤◌, true, false, List, [], ◌∷◌, ◌++◌, codes, length, take, refl, sym, ap, append_assoc, arith}
+use Rattle.std.specs.List.{flat_map}
 use Rattle.std.proofs.lemmas.List.{append-nil, take_all}
 use Rattle.races_command.specs.Printed.{bounds_text}
-use Rattle.races_command.specs.Shown.{indented, is_null_line, listed, number_of, places_text, place_text, shown_console, shown_line}
+use Rattle.races_command.specs.Shown.{indented, listed, number_of, places_text, place_text, shown_console, shown_line}
 use Rattle.text_lines.specs.Lines.{lines_of, tokens_of}
 
 -- ---- places
@@ -56,39 +56,19 @@ unfolding listed
 listed_none [] none = refl
 listed_none (b ∷ rest) none = absurd (search (arith, none))
 
--- the lines that are listed
-abbrev left_of : List (List ℕ) → List (List ℕ)
-left_of lines = filter (λ line. not (is_null_line (tokens_of line))) lines
-
-kept_line : (line : List ℕ) (lines : List (List ℕ)) → false ≡ is_null_line (tokens_of line) → left_of (line ∷ lines) ≡ line ∷ left_of lines
-kept_line line lines said = rw (sym said) refl
-
-null_line : (line : List ℕ) (lines : List (List ℕ)) → true ≡ is_null_line (tokens_of line) → left_of (line ∷ lines) ≡ left_of lines
-null_line line lines said = rw (sym said) refl
-
-listed_more : (rest line next : List ℕ) → lines_of rest ≡ line ∷ lines_of next → false ≡ is_null_line (tokens_of line) → listed rest ≡ indented line ++ listed next
+listed_more : (rest line next : List ℕ) → lines_of rest ≡ line ∷ lines_of next → listed rest ≡ indented line ++ listed next
 unfolding listed
-listed_more rest line next cut said =
-    ap (λ (lines : List (List ℕ)). flat_map indented (left_of lines)) cut ∙ ap (flat_map indented) (kept_line line (lines_of next) said)
+listed_more rest line next cut = ap (flat_map indented) cut
 
-listed_same : (rest line next : List ℕ) → lines_of rest ≡ line ∷ lines_of next → true ≡ is_null_line (tokens_of line) → listed rest ≡ listed next
-unfolding listed
-listed_same rest line next cut said =
-    ap (λ (lines : List (List ℕ)). flat_map indented (left_of lines)) cut ∙ ap (flat_map indented) (null_line line (lines_of next) said)
-
--- one more line is listed, or left out
+-- one more line is listed
 pub listed_step : (t0 t1 t2 t3 all line next rest : List ℕ) → t0 ++ listed rest ≡ all → lines_of rest ≡ line ∷ lines_of next
-    → false ≡ is_null_line (tokens_of line) → t1 ≡ t0 ++ codes "  " → t2 ≡ t1 ++ line → t3 ≡ t2 ++ codes "\n" → t3 ++ listed next ≡ all
-listed_step t0 t1 t2 t3 all line next rest is cut said one two three =
+    → t1 ≡ t0 ++ codes "  " → t2 ≡ t1 ++ line → t3 ≡ t2 ++ codes "\n" → t3 ++ listed next ≡ all
+listed_step t0 t1 t2 t3 all line next rest is cut one two three =
     let whole : t3 ≡ t0 ++ indented line = three ∙ ap (λ (t : List ℕ). t ++ codes "\n") (two ∙ ap (λ (t : List ℕ). t ++ line) one) ∙ simp append_assoc in
     ap (λ (t : List ℕ). t ++ listed next) whole
     ∙ append_assoc t0 (indented line) (listed next)
-    ∙ ap (λ (t : List ℕ). t0 ++ t) (sym (listed_more rest line next cut said))
+    ∙ ap (λ (t : List ℕ). t0 ++ t) (sym (listed_more rest line next cut))
     ∙ is
-
-pub listed_skip : (t all line next rest : List ℕ) → t ++ listed rest ≡ all → lines_of rest ≡ line ∷ lines_of next
-    → true ≡ is_null_line (tokens_of line) → t ++ listed next ≡ all
-listed_skip t all line next rest is cut said = ap (λ (s : List ℕ). t ++ s) (sym (listed_same rest line next cut said)) ∙ is
 
 pub listed_end : (t all rest : List ℕ) → t ++ listed rest ≡ all → true ≡ (length rest == 0) → t ≡ all
 listed_end t all rest is none = sym (ap (λ (s : List ℕ). t ++ s) (listed_none rest none) ∙ append-nil t) ∙ is

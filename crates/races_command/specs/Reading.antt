@@ -11,9 +11,16 @@ read_of r = record {
   most = r.most;
   within = r.within;
   found = option_map string_bytes r.found;
+  outcome = r.outcome;
   due = r.due;
   is_past = r.is_past;
 }
 
 abbrev pub asked_of : Words → Asked
-asked_of w = record { run = map string_bytes w.run.items; most = w.most; within = w.within; found = option_map string_bytes w.found }
+asked_of w = record {
+  run = map string_bytes w.run.items;
+  most = w.most;
+  within = w.within;
+  found = option_map string_bytes w.found;
+  outcome = w.outcome;
+}

@@ -1,8 +1,9 @@
 -- The search over accepted inputs: what it finds and sends, or why it ends before.
-use Rattle.std.specs.Prelude.{◌≡◌, ◌≤◌, ℕ, Bool, true, false, List, [], ◌∷◌, take, Option, Some, None, Result, Ok, Err}
+use Rattle.std.specs.Prelude.{◌≡◌, ◌≤◌, ◌⊎◌, ℕ, zero, suc, Bool, true, false, List, [], ◌∷◌, take, Option, Some, None, option_map, Result, Ok, Err}
+use Rattle.std.specs.List.{slice_get}
 use Rattle.command_line.specs.Reading.{Text}
 use Rattle.host_port.specs.HostCalls.{Rose}
-use Rattle.host_port.specs.Outside.{Outside, appended, counted, grown, made_empty, naming, with_calls}
+use Rattle.host_port.specs.Outside.{Outside, appended, counted, emptied_channel, grown, made_empty, naming, with_calls}
 use Rattle.host_port.specs.declared.host.Channel.TheVariants.{Out, Image}
 use Rattle.preemptions.specs.Placements.{placements}
 use Rattle.preemptions.specs.Preempted.{preempted_at}
@@ -17,7 +18,7 @@ use Rattle.races_command.specs.declared.faults.Fault.{Fault}
 use Rattle.races_command.specs.declared.faults.Fault.TheVariants as fault
 
 -- What is searched: the images that boot on the disks, the base's events, at most how many quantum ends are put in and within how many steps,
--- and the file for the schedule of the second row, if one is named.
+-- the file for the schedule of a row, if one is named, and the number of that row.
 pub record Searched : Type 0 where
   pub disks : Disks
   pub images : List Loaded
@@ -25,11 +26,17 @@ pub record Searched : Type 0 where
   pub most : ℕ
   pub within : ℕ
   pub found : Option Text
+  pub outcome : ℕ
 
--- the file with the schedule of the second row: its name and its text, if one is named and there is such a row
-abbrev pub found_file : Option Text → List Event → List Row → Option (Text × List ℕ)
-found_file (Some name) base (first ∷ second ∷ table) = Some (name, schedule_text (preempted_at second.first base))
-found_file name base table = None
+-- the row with a number, counted from 1, if there is one
+abbrev pub row_numbered : ℕ → List Row → Option Row
+row_numbered zero table = None
+row_numbered (suc place) table = slice_get table place
+
+-- the file with the schedule of the row with a number: its name and its text, if one is named and there is such a row
+abbrev pub found_file : Option Text → ℕ → List Event → List Row → Option (Text × List ℕ)
+found_file None outcome base table = None
+found_file (Some name) outcome base table = option_map (λ row. (name, schedule_text (preempted_at row.first base))) (row_numbered outcome table)
 
 -- what the world is like once a file was written, if there is one
 abbrev pub with_file : Outside → Option (Text × List ℕ) → Outside
@@ -40,38 +47,55 @@ with_file h (Some file) = appended (with_calls (made_empty h Image) (naming Imag
 pub record Finds (s : Searched) (old new : Outside) : Type 0 where
   pub table : List Row
   pub explores : Explores s.disks s.images s.base (placements s.most s.within) table
-  pub sent : new ≡ counted (with_file (appended old Out (table_text true s.most s.within table)) (found_file s.found s.base table)) new.faults
+  pub sent : new ≡ counted (with_file (appended old Out (table_text true s.most s.within table)) (found_file s.found s.outcome s.base table)) new.faults
 
 -- The table is that of all placements, or of the first of them.
 abbrev pub IsTable : Bool → Searched → List Row → Type 0
 IsTable true s table = Explores s.disks s.images s.base (placements s.most s.within) table
 IsTable false s table = ExploresSome s.disks s.images s.base (placements s.most s.within) table
 
--- Of a text a part was sent, from the front. No file and nothing else that was sent changed, but perhaps the file of the second row.
-pub record SendsPart (text : List ℕ) (old new : Outside) : Type 0 where
+-- A file was named for a schedule and a prefix of its text written into it, or neither was done.
+pub record WritesPart (file : Text × List ℕ) (old new : Outside) : Type 0 where
+  pub image : (n : ℕ) × ((new.image ≡ old.image) ⊎ (new.image ≡ grown (emptied_channel old.image) (take n file.1)))
+  pub calls : (n : ℕ) × (new.calls ≡ grown old.calls (take n (naming Image file.0 ∷ [])))
+
+-- No file was named and none written, but for this one, if there is one.
+abbrev pub MayWrite : Option (Text × List ℕ) → Outside → Outside → Type 0
+MayWrite None old new = (new.image ≡ old.image) × (new.calls ≡ old.calls)
+MayWrite (Some file) old new = WritesPart file old new
+
+-- A prefix of a text was sent, and a prefix of a file written, if there is one. Nothing else changed, but the count of faults may have risen.
+pub record SendsPart (text : List ℕ) (file : Option (Text × List ℕ)) (old new : Outside) : Type 0 where
   pub out : (n : ℕ) × (new.out ≡ grown old.out (take n text))
+  pub written : MayWrite file old new
   pub fault : new.fault ≡ old.fault
   pub disk0 : new.disk0 ≡ old.disk0
   pub disk1 : new.disk1 ≡ old.disk1
-  pub file : new.file ≡ old.file
+  pub files : new.file ≡ old.file
   pub later : old.faults ≤ new.faults
 
--- A part of a text was sent: memory ran out, or the host failed, but only if the count of faults rose.
-abbrev pub StopsIn : List ℕ → Fault → Outside → Outside → Type 0
-StopsIn text (fault.Refused refusal.NoMemory) old new = SendsPart text old new
-StopsIn text (fault.Refused refusal.HostFault) old new = SendsPart text old new × Rose old.faults new.faults
-StopsIn text fault old new = ⊥
+-- Sending is broken off if memory runs out, or if the host fails, but then only if the count of faults rose.
+abbrev pub IsBreak : Fault → ℕ → ℕ → Type 0
+IsBreak (fault.Refused refusal.NoMemory) before after = Unit {0}
+IsBreak (fault.Refused refusal.HostFault) before after = Rose before after
+IsBreak fault before after = ⊥
 
--- Nothing changed but the file of the second row: memory ran out, or the host failed, but only if the count of faults rose.
-abbrev pub StopsAtFile : Fault → Outside → Outside → Type 0
-StopsAtFile fault old new = StopsIn [] fault old new
+-- Sending a text, and after it a file if there is one, was broken off.
+pub record StopsIn (text : List ℕ) (file : Option (Text × List ℕ)) (fault : Fault) (old new : Outside) : Type 0 where
+  pub sends : SendsPart text file old new
+  pub cause : IsBreak fault old.faults new.faults
 
--- The search was broken off: of the table so far a part was sent.
+-- the file that is written after a table: there is none after one that isn't of all placements
+abbrev pub file_after : Bool → Searched → List Row → Option (Text × List ℕ)
+file_after true s table = found_file s.found s.outcome s.base table
+file_after false s table = None
+
+-- The search was broken off: a prefix of the table so far was sent, and of the file after it one written, if the table is of all placements.
 pub record BreaksOff (s : Searched) (old new : Outside) : Type 0 where
   pub are_all : Bool
   pub table : List Row
   pub explores : IsTable are_all s table
-  pub sends : SendsPart (table_text are_all s.most s.within table) old new
+  pub sends : SendsPart (table_text are_all s.most s.within table) (file_after are_all s table) old new
 
 -- The search ended so. If the images don't boot, nothing was done; the host failed only if the count of faults rose.
 abbrev pub Searches : Searched → Option Fault → Outside → Outside → Type 0

@@ -1,6 +1,6 @@
 -- The parts of a printed table: numbers, the bytes that the console sent, lines.
-use Rattle.std.specs.Prelude.{◌==◌, ◌&&◌, ℕ, Bool, false, not, nat_le, if◌then◌else◌, List, [], ◌∷◌, ◌++◌, codes, bytes_eq}
-use Rattle.std.specs.List.{filter, flat_map}
+use Rattle.std.specs.Prelude.{◌==◌, ◌&&◌, ℕ, Bool, not, nat_le, if◌then◌else◌, List, [], ◌∷◌, ◌++◌, codes}
+use Rattle.std.specs.List.{flat_map}
 use Rattle.std.specs.Fmt.{decimal}
 use Rattle.std.specs.Option.{option_map_or}
 use Rattle.schedule_file.specs.Numbers.{byte_in}
@@ -39,15 +39,14 @@ shown_line tokens = []
 unfoldable pub shown_console : List ℕ → List ℕ
 shown_console lines = flat_map (λ line. shown_line (tokens_of line)) (lines_of lines)
 
--- whether a line of the tables is that of the null process
-abbrev pub is_null_line : List (List ℕ) → Bool
-is_null_line (word ∷ number ∷ rest) = bytes_eq word (codes "proc") && bytes_eq number (codes "0")
-is_null_line tokens = false
-
 -- a line behind two blanks
 abbrev pub indented : List ℕ → List ℕ
 indented line = codes "  " ++ line ++ codes "\n"
 
--- the lines of a text but that of the null process, which is always left
+-- the lines of a text, none left out
 unfoldable pub listed : List ℕ → List ℕ
-listed text = flat_map indented (filter (λ line. not (is_null_line (tokens_of line))) (lines_of text))
+listed text = flat_map indented (lines_of text)
+
+-- whether a byte is neither a line feed nor a carriage return
+abbrev pub is_plain : ℕ → Bool
+is_plain b = not (b == 10) && not (b == 13)

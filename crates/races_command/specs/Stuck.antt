@@ -14,11 +14,11 @@ is_blocked_state state = bytes_eq state (codes "suspend") || (bytes_eq state (co
 abbrev pub is_device_semaphore : List ℕ → Bool
 is_device_semaphore number = bytes_eq number (codes "0") || (bytes_eq number (codes "1") || (bytes_eq number (codes "2") || bytes_eq number (codes "3")))
 
--- whether the line of a process says that it is the null process, or that it goes on only if another one lets it; and whether the line of a
--- waiter says that it waits for none of the devices
+-- whether the line of a process says that it goes on only if another one lets it; and whether the line of a waiter says that it waits for none
+-- of the devices
 abbrev pub is_blocked : List (List ℕ) → Bool
 is_blocked (word ∷ number ∷ state ∷ rest) =
-    cond (bytes_eq word (codes "proc")) (bytes_eq number (codes "0") || is_blocked_state state) (not (is_device_semaphore number))
+    cond (bytes_eq word (codes "proc")) (is_blocked_state state) (not (is_device_semaphore number))
 is_blocked tokens = true
 
 -- whether a run ended so

@@ -1,15 +1,15 @@
 -- The statement of what the command does. Read `Answers`, at the end, first; what is asked is in Words.antt, what a search finds in Searching.antt,
 -- and the table as it is printed in Printed.antt.
-use Rattle.std.specs.Prelude.{◌≡◌, ◌≤◌, ◌<◌, ◌⊎◌, ℕ, List, [], length, map, take, codes, Option, Some, None, Result, Ok, Err}
+use Rattle.std.specs.Prelude.{◌≡◌, ◌≤◌, ◌<◌, ◌⊎◌, ℕ, List, length, map, codes, Option, Some, None, Result, Ok, Err}
 use Rattle.std.specs.List.{count_by}
 use Rattle.command_line.specs.Commands.{command_of}
 use Rattle.command_line.specs.Reading.{Text}
 use Rattle.given_disks.specs.Disks.{disks_of}
-use Rattle.host_port.specs.Outside.{Outside, appended, counted}
-use Rattle.host_port.specs.declared.host.Channel.TheVariants as channel
+use Rattle.host_port.specs.Outside.{Outside}
 use Rattle.preemptions.specs.Preempted.{is_step}
+use Rattle.refusal_words.specs.Meanings.{meaning}
+use Rattle.refusal_words.specs.Tellings.{TellsInWords}
 use Rattle.run_inputs.specs.InputFaults.{images_loaded}
-use Rattle.run_inputs.specs.Refusals.{TellsRefusal}
 use Rattle.run_inputs.specs.Words.{ReadsRun, inputs_asked}
 use Rattle.run_inputs.specs.declared.inputs.Inputs.{Inputs}
 use Rattle.run_inputs.specs.declared.refusals.Refusal.{Refusal}
@@ -45,6 +45,7 @@ search_of a x images = record {
   most = a.most;
   within = a.within;
   found = a.found;
+  outcome = a.outcome;
 }
 
 -- What became of the inputs: the refusal of them is that of the command, and with accepted ones the command went on.
@@ -82,26 +83,24 @@ refusal_of fault.TooMany = refusal.Usage
 refusal_of fault.TooLong = refusal.Usage
 refusal_of fault.TooFar = refusal.Usage
 
--- the line after that text
+-- the words of the command
+abbrev pub usage : List ℕ
+usage = codes "--preemptions P --within N [--found FILE [--outcome K]] --schedule FILE [--disk0 FILE] [--disk1 FILE] IMAGE .."
+
+-- the line after that text: what a refusal means, or which number doesn't fit
 abbrev pub line_of : Fault → List ℕ
-line_of (fault.Refused cause) = []
+line_of (fault.Refused cause) = meaning usage cause
 line_of fault.TooMany = codes "there are at most 3 preemptions\n"
 line_of fault.TooLong = codes "the schedule has over 1000000 events\n"
 line_of fault.TooFar = codes "the schedule has fewer steps than that\n"
 
--- A fault was told: a refusal's status and text, and a line after it or a part of it.
-pub record TellsFault (fault : Fault) (exit : ℕ) (old new : Outside) : Type 0 where
-  pub told : Outside
-  pub refusal : TellsRefusal (refusal_of fault) exit old told
-  pub line : (n : ℕ) × (new ≡ counted (appended told channel.Fault (take n (line_of fault))) new.faults)
-
--- The status is 0 if the command was done, and else that of the fault, which is told.
+-- The status is 0 if the command was done, and else that of the fault, which is told in two lines.
 abbrev pub Tells : Option Fault → ℕ → Outside → Outside → Type 0
 Tells None exit mid new = (exit ≡ 0) × (new ≡ mid)
-Tells (Some fault) exit mid new = TellsFault fault exit mid new
+Tells (Some fault) exit mid new = TellsInWords (refusal_of fault) (line_of fault) exit mid new
 
 -- The theorem. The command was carried out as its arguments ask (`carries`): the table that was sent is that of runs of all placements, over the
--- inputs that the files gave. Then, in the world that this left, its end was told by a status, and a fault by its text too.
+-- inputs that the files gave. Then, in the world that this left, its end was told by a status, and a fault by its text and a line.
 pub record Answers (exit : ℕ) (args : List Text) (old new : Outside) : Type 0 where
   pub ended : Option Fault
   pub mid : Outside

@@ -1,18 +1,20 @@
 -- What the arguments of the command ask.
-use Rattle.std.specs.Prelude.{◌==◌, ◌||◌, ℕ, nat_lt, Bool, false, if◌then◌else◌, List, [], ◌∷◌, ◌++◌, length, Option, Some, None, is_some, option_map, option_and_then, bytes_eq, codes}
+use Rattle.std.specs.Prelude.{◌==◌, ◌||◌, ◌&&◌, ℕ, nat_lt, Bool, false, if◌then◌else◌, List, [], ◌∷◌, ◌++◌, length, Option, Some, None, is_none, is_some, option_map, option_and_then, bytes_eq, codes}
 use Rattle.std.specs.List.{before_first, after_first, position_or_len}
+use Rattle.std.specs.Option.{unwrap_or}
 use Rattle.command_line.specs.Reading.{Text, is_equals_sign}
 use Rattle.run_inputs.specs.Numbers.{number}
 use Rattle.races_command.specs.declared.words.Choice.{Choice}
-use Rattle.races_command.specs.declared.words.Choice.TheVariants.{Preemptions, Within, Found}
+use Rattle.races_command.specs.declared.words.Choice.TheVariants.{Preemptions, Within, Found, Outcome}
 
 -- What is asked: the arguments of the run, with the word `run` before them; at most how many quantum ends are put in, and within how many
--- steps; and the file for the schedule of the second row, if one is named.
+-- steps; the file for the schedule of a row, if one is named, and the number of that row.
 pub record Asked : Type 0 where
   pub run : List Text
   pub most : ℕ
   pub within : ℕ
   pub found : Option Text
+  pub outcome : ℕ
 
 -- What was read of the arguments: those of the run, the values of the options of the search, the option whose value comes next, and whether
 -- `--` was read, after which no argument is an option.
@@ -21,12 +23,13 @@ pub record Read : Type 0 where
   pub most : Option ℕ
   pub within : Option ℕ
   pub found : Option Text
+  pub outcome : Option ℕ
   pub due : Option Choice
   pub is_past : Bool
 
 -- nothing was read
 abbrev pub nothing_read : Read
-nothing_read = record { run = codes "run" ∷ []; most = None; within = None; found = None; due = None; is_past = false }
+nothing_read = record { run = codes "run" ∷ []; most = None; within = None; found = None; outcome = None; due = None; is_past = false }
 
 -- the option of the search that an argument names
 abbrev pub option_in : Text → Option Choice
@@ -34,6 +37,7 @@ option_in arg =
     if bytes_eq arg (codes "--preemptions") then Some Preemptions
     else if bytes_eq arg (codes "--within") then Some Within
     else if bytes_eq arg (codes "--found") then Some Found
+    else if bytes_eq arg (codes "--outcome") then Some Outcome
     else None
 
 -- what stands before the first `=` and after it, if there is one
@@ -51,11 +55,12 @@ option_with_value arg = option_and_then (λ p. option_map (λ choice. (choice, p
 abbrev pub number_in : Text → Option ℕ
 number_in value = if bytes_eq value (codes "0") then Some 0 else number value 9999999999
 
--- an option of the search takes a value once: a number, or a name that isn't empty
+-- an option of the search takes a value once: a number, that of a row from 1 on, or a name that isn't empty
 abbrev pub chosen : Choice → Text → Read → Option Read
 chosen Preemptions value r = if is_some r.most then None else option_map (λ n. record r { most = Some n }) (number_in value)
 chosen Within value r = if is_some r.within then None else option_map (λ n. record r { within = Some n }) (number_in value)
 chosen Found value r = if is_some r.found || (length value == 0) then None else Some (record r { found = Some value })
+chosen Outcome value r = if is_some r.outcome then None else option_map (λ n. record r { outcome = Some n }) (number value 9999999999)
 
 -- an argument that is no value names an option, or an option with its value, or else it is one of the run
 abbrev pub after_word : Option Choice → Option (Choice × Text) → Text → Read → Option Read
@@ -73,9 +78,13 @@ abbrev pub read_on : Read → List Text → Option Read
 read_on r [] = Some r
 read_on r (arg ∷ args) = option_and_then (λ next. read_on next args) (after r.due arg r)
 
--- what was read asks something if both numbers were given
+-- what is asked with these numbers: the row is the second if no number of one was given
+abbrev pub asked_for : ℕ → ℕ → Read → Asked
+asked_for most within r = record { run = r.run; most = most; within = within; found = r.found; outcome = unwrap_or r.outcome 2 }
+
+-- what was read asks something if both numbers were given, and a row only with a file for it
 abbrev pub asked_with : Option ℕ → Option ℕ → Read → Option Asked
-asked_with (Some most) (Some within) r = Some (record { run = r.run; most = most; within = within; found = r.found })
+asked_with (Some most) (Some within) r = if is_some r.outcome && is_none r.found then None else Some (asked_for most within r)
 asked_with (Some most) None r = None
 asked_with None within r = None
 

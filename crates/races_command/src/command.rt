@@ -23,12 +23,12 @@ use run_inputs::{Inputs, Refusal, fetch_run, images_of};
 use std::alloc::Global;
 use xinu_base::Event;
 
-/// Goes through the placements that the arguments after the program's name ask for: sends the table on Out, writes the schedule of the second
-/// row if a file is named for it, and answers the exit status.
+/// Goes through the placements that the arguments after the program's name ask for: sends the table on Out, writes the schedule of a row,
+/// the second if no other is asked for, if a file is named for it, and answers the exit status.
 ///
-/// The status is 0 if it was sent. Else it is the status with which `run` refuses these arguments and files, and its text is sent on Fault:
-/// 2 also for numbers that don't fit, with a line that says why; 3 if the host failed; 7 if memory ran out, after the table so far. The progress is
-/// told how many placements there are, and of each that was gone through.
+/// The status is 0 if it was sent. Else it is the status with which `run` refuses these arguments and files, and its text is sent on Fault, with a
+/// line after it that says it in words: 2 also for numbers that don't fit; 3 if the host failed; 7 if memory ran out, after the table so far. The
+/// progress is told how many placements there are, and of each that was gone through.
 pub fn races<H: Host, P: Progress>(
     alloc: Global,
     args: &[String],
@@ -39,7 +39,7 @@ pub fn races<H: Host, P: Progress>(
 {
     match carry_out(alloc, args, host, progress) {
         Ok(()) => 0,
-        Err(fault) => tell(fault, host),
+        Err(fault) => tell(alloc, fault, host),
     }
 }
 
@@ -114,6 +114,7 @@ fn go_through<H: Host, P: Progress>(
         base.as_slice(),
         limits,
         found,
+        words.outcome,
         host,
         progress,
     )
@@ -128,6 +129,7 @@ fn search<H: Host, P: Progress>(
     base: &[Event],
     limits: Limits,
     found: Option<&str>,
+    outcome: u64,
     host: &mut H,
     progress: &mut P,
 ) -> Result<(), Fault>
@@ -136,7 +138,7 @@ fn search<H: Host, P: Progress>(
     requires base { length base.now ≤ 1000000 }
     requires most { limits.most ≤ 3 }
     requires within { limits.within ≤ 1000000 }
-    ensures searches { search.Searches (record { disks = disks_of disk0.now disk1.now; images = map loaded_of images.now; base = base.now; most = limits.most; within = limits.within; found = option_map (λ s. s.now) found.entry }) (search.ended_by result) (H.view host.old) (H.view host.new) }
+    ensures searches { search.Searches (record { disks = disks_of disk0.now disk1.now; images = map loaded_of images.now; base = base.now; most = limits.most; within = limits.within; found = option_map (λ s. s.now) found.entry; outcome = outcome }) (search.ended_by result) (H.view host.old) (H.view host.new) }
 {
     let mut table = Vec::new(alloc);
     let Limits { most, within } = limits;
@@ -150,7 +152,16 @@ fn search<H: Host, P: Progress>(
                 Ok(()) => {}
                 Err(fault) => return Err(fault),
             }
-            write_found(alloc, table.as_slice(), most, within, base, found, host)
+            write_found(
+                alloc,
+                table.as_slice(),
+                most,
+                within,
+                base,
+                found,
+                outcome,
+                host,
+            )
         }
         Err(BootFault::NoMemory) => {
             progress.end();

@@ -1,12 +1,15 @@
 //! Why the command wasn't carried out, and how it is told.
 
 ghost use Rattle.std.specs.Prelude.{◌≡◌};
+ghost use Rattle.refusal_words.specs.Tellings.{TellsInWords};
 ghost use Rattle.run_inputs.specs.Conversions.{host_refusal};
 ghost use Rattle.races_command.specs.Theorem as spec;
 ghost use Rattle.races_command.specs.declared.faults.Fault.TheVariants as variant;
 
-use host_port::{Channel, Host, HostFault};
-use run_inputs::{Refusal, refuse};
+use host_port::{Host, HostFault};
+use refusal_words::tell_meaning;
+use run_inputs::Refusal;
+use std::alloc::Global;
 use xinu_base::NoMemory;
 
 /// Why the command wasn't carried out.
@@ -33,34 +36,32 @@ impl From<Refusal> for Fault {
     }
 }
 
-/// Sends the text of a refusal on Fault, with a line after it if the command refuses what `run` doesn't, and answers the exit status.
-pub(crate) fn tell<H: Host>(fault: Fault, host: &mut H) -> u8
-    ensures { spec.TellsFault fault result (H.view host.old) (H.view host.new) }
-{
-    let status = refuse(refusal_of(fault), host);
-    let _ = host.emit(Channel::Fault, line_of(fault).as_bytes());
-    status
-}
+/// The words of the command.
+const USAGE: &str =
+    "--preemptions P --within N [--found FILE [--outcome K]] --schedule FILE [--disk0 FILE] [--disk1 FILE] IMAGE ..";
 
-// The refusal as which a fault is told.
-fn refusal_of(fault: Fault) -> Refusal
-    ensures { result ≡ spec.refusal_of fault }
+/// Sends the text of a refusal on Fault and a line after it, which says what the refusal means, or which number doesn't fit, and answers the exit
+/// status.
+pub(crate) fn tell<H: Host>(alloc: Global, fault: Fault, host: &mut H) -> u8
+    ensures tells { TellsInWords (spec.refusal_of fault) (spec.line_of fault) result (H.view host.old) (H.view host.new) }
 {
     match fault {
-        Fault::Refused(refusal) => refusal,
-        Fault::TooMany | Fault::TooLong | Fault::TooFar => Refusal::Usage,
-    }
-}
-
-// The line after the text of the refusal.
-fn line_of(fault: Fault) -> &'static str
-    ensures { result.now ≡ spec.line_of fault }
-{
-    match fault {
-        Fault::Refused(_) => "",
-        Fault::TooMany => "there are at most 3 preemptions\n",
-        Fault::TooLong => "the schedule has over 1000000 events\n",
-        Fault::TooFar => "the schedule has fewer steps than that\n",
+        Fault::Refused(refusal) => tell_meaning(alloc, refusal, USAGE, host),
+        Fault::TooMany => refusal_words::tell(
+            Refusal::Usage,
+            b"there are at most 3 preemptions\n",
+            host,
+        ),
+        Fault::TooLong => refusal_words::tell(
+            Refusal::Usage,
+            b"the schedule has over 1000000 events\n",
+            host,
+        ),
+        Fault::TooFar => refusal_words::tell(
+            Refusal::Usage,
+            b"the schedule has fewer steps than that\n",
+            host,
+        ),
     }
 }
 

@@ -1,15 +1,17 @@
 //! The command `races`: which outcomes a program has on all placements of quantum ends in a schedule.
 //!
 //! The arguments are those of `run` without what concerns its output, with `--preemptions P` before them, at most how many quantum ends are
-//! put in, `--within N`, the steps of the schedule within which they are, and `--found FILE`, the file for a schedule with the second outcome.
+//! put in, `--within N`, the steps of the schedule within which they are, `--found FILE`, the file for a schedule with
+//! the second outcome, and `--outcome K`, that with another one.
 //!
 //! | Call | Promise |
 //! |---|---|
-//! | [`races`] | `answers`: the table of runs of all placements is sent, over the inputs that the files gave, and the schedule of the second row is written; each other status has its cause, and its text is sent (`Answers` in `specs/Theorem.antt`) |
+//! | [`races`] | `answers`: the table of runs of all placements is sent, over the inputs that the files gave, and the schedule of the row that is asked for is written; each other status has its cause, and its text is sent (`Answers` in `specs/Theorem.antt`) |
 //! | [`events_of`] | `events`: the events of a schedule; `cause`: refused if and only if there are more than 1000000, or out of memory |
 //! | [`judge`] | `judged`: the numbers are accepted as they are asked for, or refused for the cause that the fault says |
 //! | [`schedule_of`] | `text`, `reads`: the file that is written for a row, which reads as the base's events with its first placement |
 //! | [`is_stuck`] | `stuck`: whether no process can go on by itself or by a device after the run |
+//! | [`laws`] | no line of an outcome is hidden: lines that are listed alike are the same |
 //!
 //! [`Progress`] is told how many placements there are and of each that was gone through; [`Silent`] says nothing.
 //!
@@ -21,6 +23,7 @@ mod bases;
 mod command;
 mod console;
 mod faults;
+pub mod laws;
 mod reports;
 mod showing;
 mod stuck;

@@ -1,6 +1,6 @@
-//! What the command sends: the table, and the schedule of its second row.
+//! What the command sends: the table, and the schedule of a row.
 
-ghost use Rattle.std.specs.Prelude.{◌≡◌, ◌≤◌, ◌<◌, Some, length, map, option_map, IfOk, MatchResult};
+ghost use Rattle.std.specs.Prelude.{◌≡◌, ◌≤◌, ◌<◌, [], None, Some, length, map, option_map, IfOk, MatchResult};
 ghost use Rattle.std.specs.List.{All, sum};
 ghost use Rattle.host_port.specs.Outside.{appended, counted};
 ghost use Rattle.host_port.specs.declared.host.Channel.TheVariants as channel;
@@ -33,7 +33,7 @@ pub(crate) fn send_table<H: Host>(
     host: &mut H,
 ) -> Result<(), Fault>
     requires fits { sum (map (λ row. row.count) table.now) < 18446744073709551616 }
-    ensures sends { MatchResult result (λ _. H.view host.new ≡ counted (appended (H.view host.old) channel.Out (printed.table_text are_all most within table.now)) (H.view host.new).faults) (λ fault. spec.StopsIn (printed.table_text are_all most within table.now) fault (H.view host.old) (H.view host.new)) }
+    ensures sends { MatchResult result (λ _. H.view host.new ≡ counted (appended (H.view host.old) channel.Out (printed.table_text are_all most within table.now)) (H.view host.new).faults) (λ fault. spec.StopsIn (printed.table_text are_all most within table.now) None fault (H.view host.old) (H.view host.new)) }
     ensures later { (H.view host.old).faults ≤ (H.view host.new).faults }
 {
     let Ok(text) = table_text(alloc, table, most, within, are_all) else {
@@ -45,7 +45,7 @@ pub(crate) fn send_table<H: Host>(
     }
 }
 
-/// Writes the schedule of the second row's first placement into a file, if one is named and there is a second row.
+/// Writes the schedule of a row's first placement into a file, if one is named and there is a row with this number, counted from 1.
 ///
 /// # Errors
 /// Out of memory; the host failed.
@@ -56,17 +56,18 @@ pub(crate) fn write_found<H: Host>(
     within: u32,
     base: &[Event],
     found: Option<&str>,
+    outcome: u64,
     host: &mut H,
 ) -> Result<(), Fault>
     requires base { length base.now ≤ 1000000 }
     requires most { most ≤ 3 }
     requires placements { All (λ row. IsPlacement most within row.first) table.now }
-    ensures writes { MatchResult result (λ _. H.view host.new ≡ counted (spec.with_file (H.view host.old) (spec.found_file (option_map (λ s. s.now) found.entry) base.now table.now)) (H.view host.new).faults) (λ fault. spec.StopsAtFile fault (H.view host.old) (H.view host.new)) }
+    ensures writes { MatchResult result (λ _. H.view host.new ≡ counted (spec.with_file (H.view host.old) (spec.found_file (option_map (λ s. s.now) found.entry) outcome base.now table.now)) (H.view host.new).faults) (λ fault. spec.StopsIn [] (spec.found_file (option_map (λ s. s.now) found.entry) outcome base.now table.now) fault (H.view host.old) (H.view host.new)) }
 {
     let Some(name) = found else {
         return Ok(());
     };
-    let [_, row, ..] = table else {
+    let Some(row) = row_numbered(table, outcome) else {
         return Ok(());
     };
     let Ok(text) = schedule_of(alloc, row.first(), base) else {
@@ -80,6 +81,16 @@ pub(crate) fn write_found<H: Host>(
         Ok(()) => Ok(()),
         Err(fault) => Err(host_failed(fault)),
     }
+}
+
+// The row with this number, counted from 1, if there is one.
+fn row_numbered(table: &[Row], outcome: u64) -> Option<&Row>
+    ensures row { option_map (λ row. row.now) result ≡ spec.row_numbered outcome table.now }
+{
+    if outcome == 0 {
+        return None;
+    }
+    table.get((outcome - 1) as usize)
 }
 
 /// The schedule file of the base's events with a placement of quantum ends.

@@ -48,7 +48,7 @@ fn is_blocked(line: &[u8]) -> bool
         return true;
     };
     if is_word(word, "proc") {
-        is_word(number, "0") || is_blocked_state(state)
+        is_blocked_state(state)
     } else {
         !is_device_semaphore(number)
     }

@@ -3,12 +3,10 @@
 ghost use Rattle.std.specs.Prelude.{◌≡◌, ◌++◌, OnOk};
 ghost use Rattle.std.specs.Fmt.{decimal};
 ghost use Rattle.races_command.specs.Shown as spec;
-ghost use Rattle.text_lines.specs.Lines.{tokens_of};
 
-use crate::stuck::is_word;
 use itoa::Buffer;
 use std::alloc::AllocError;
-use text_lines::{first_line, first_token};
+use text_lines::first_line;
 
 /// Appends a number in decimal digits.
 pub(crate) fn push_number(text: &mut Vec<u8>, n: u64) -> Result<(), AllocError>
@@ -47,32 +45,17 @@ pub(crate) fn push_places(text: &mut Vec<u8>, places: &[u32]) -> Result<(), Allo
     Ok(())
 }
 
-/// Appends the lines of another text but that of the null process, each behind two blanks.
+/// Appends the lines of another text, each behind two blanks.
 pub(crate) fn push_listed(text: &mut Vec<u8>, lines: &[u8]) -> Result<(), AllocError>
     ensures listed { OnOk result (text.new.items ≡ text.old.items ++ spec.listed lines.now) }
 {
     let mut rest = lines;
     while !rest.is_empty() {
         let (line, next) = first_line(rest);
-        if !is_null_line(line) {
-            text.extend_from_slice(b"  ")?;
-            text.extend_from_slice(line)?;
-            text.extend_from_slice(b"\n")?;
-        }
+        text.extend_from_slice(b"  ")?;
+        text.extend_from_slice(line)?;
+        text.extend_from_slice(b"\n")?;
         rest = next;
     }
     Ok(())
-}
-
-// Whether a line is that of the null process.
-fn is_null_line(line: &[u8]) -> bool
-    ensures null { result ≡ spec.is_null_line (tokens_of line.now) }
-{
-    let Some((word, rest)) = first_token(line) else {
-        return false;
-    };
-    let Some((number, _)) = first_token(rest) else {
-        return false;
-    };
-    is_word(word, "proc") && is_word(number, "0")
 }

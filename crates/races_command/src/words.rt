@@ -1,4 +1,4 @@
-//! The arguments of the command: those of the run, which placements are gone through, and the file for a schedule.
+//! The arguments of the command: those of the run, which placements are gone through, and the file for the schedule of a row.
 
 ghost use Rattle.std.specs.Prelude.{◌≡◌, ◌++◌, ◌∷◌, [], if◌then◌else◌, is_some, map, option_map, IfOk, None, Some};
 ghost use Rattle.std.specs.String.{string_bytes};
@@ -11,15 +11,18 @@ use std::alloc::{AllocError, Global};
 
 /// The greatest number of ten decimal digits.
 const GREATEST: u64 = 9_999_999_999;
+/// The row whose schedule is written if none is asked for.
+const SECOND: u64 = 2;
 
 /// The arguments: those of the command `run`, with its name before them, the most quantum ends that are put in, the steps within which they
-/// are, and the name of the file for the first schedule of the second row.
+/// are, the name of the file for the first schedule of a row, and the number of that row.
 #[derive(Drop)]
 pub(crate) struct Words {
     pub(crate) run: Vec<String>,
     pub(crate) most: u64,
     pub(crate) within: u64,
     pub(crate) found: Option<String>,
+    pub(crate) outcome: u64,
 }
 
 /// An option of the search.
@@ -31,6 +34,8 @@ pub(crate) enum Choice {
     Within,
     /// `--found`
     Found,
+    /// `--outcome`
+    Outcome,
 }
 
 /// What was read so far.
@@ -40,14 +45,16 @@ pub(crate) struct Reader {
     most: Option<u64>,
     within: Option<u64>,
     found: Option<String>,
+    outcome: Option<u64>,
     /// The option whose value comes next.
     due: Option<Choice>,
     /// Whether `--` was read, after which no argument is an option.
     is_past: bool,
 }
 
-/// What the arguments after the program's name ask. There is nothing if an option of the search is given twice, or without a value, or if
-/// `--preemptions` or `--within` is missing or has no number of at most ten decimal digits.
+/// What the arguments after the program's name ask. There is nothing if an option of the search is given twice, or without a value, if
+/// `--preemptions` or `--within` is missing or has no number of at most ten decimal digits, or if `--outcome` has no number from 1 on, or is given
+/// without `--found`.
 ///
 /// # Errors
 /// Out of memory.
@@ -77,6 +84,7 @@ impl Reader {
             most: None,
             within: None,
             found: None,
+            outcome: None,
             due: None,
             is_past: false,
         })
@@ -90,14 +98,25 @@ impl Reader {
             return None;
         }
         match (self.most, self.within) {
-            (Some(most), Some(within)) => Some(Words {
-                run: self.run,
-                most,
-                within,
-                found: self.found,
-            }),
+            (Some(most), Some(within)) => self.with_numbers(most, within),
             _ => None,
         }
+    }
+
+    // What is asked with these numbers, unless a row is asked for without a file for it.
+    fn with_numbers(self, most: u64, within: u64) -> Option<Words>
+        ensures asked { option_map asked_of result ≡ spec.asked_with (Some most) (Some within) (read_of self) }
+    {
+        if self.outcome.is_some() && self.found.is_none() {
+            return None;
+        }
+        Some(Words {
+            run: self.run,
+            most,
+            within,
+            found: self.found,
+            outcome: self.outcome.unwrap_or(SECOND),
+        })
     }
 
     // Reads an argument, if it is a good one.
@@ -156,6 +175,7 @@ impl Reader {
             Choice::Preemptions => Ok(self.with_most(number_in(value))),
             Choice::Within => Ok(self.with_within(number_in(value))),
             Choice::Found => self.with_found(alloc, value),
+            Choice::Outcome => Ok(self.with_outcome(number(value, GREATEST))),
         }
     }
 
@@ -191,6 +211,22 @@ impl Reader {
         }
     }
 
+    // Takes the number of a row, if there is one, and the first.
+    fn with_outcome(self, value: Option<u64>) -> Option<Reader>
+        ensures outcome { option_map read_of result ≡ (if is_some self.outcome then None else option_map (λ n. record (read_of self) { outcome = Some n }) value) }
+    {
+        if self.outcome.is_some() {
+            return None;
+        }
+        match value {
+            Some(_) => Some(Reader {
+                outcome: value,
+                ..self
+            }),
+            None => None,
+        }
+    }
+
     // Takes the name of the file for a schedule, if it isn't empty, and the first.
     fn with_found(self, alloc: Global, value: &str) -> Result<Option<Reader>, AllocError>
         ensures found { IfOk result (λ r. option_map read_of r ≡ spec.chosen choice.Found value.now (read_of self)) }
@@ -214,6 +250,7 @@ fn option_in(arg: &str) -> Option<Choice>
         "--preemptions" => Some(Choice::Preemptions),
         "--within" => Some(Choice::Within),
         "--found" => Some(Choice::Found),
+        "--outcome" => Some(Choice::Outcome),
         _ => None,
     }
 }

@@ -10,7 +10,7 @@ pub loop-rest-preserved : goal.loop-rest-preserved
 loop-rest-preserved c =
     let l = c.loop-rest in
     let other = kept-other c.args.word.now c.first_line.result.0.now l.rest.now c.first_line.result.1.now c.first_line.ensures.lines
-    (sym c.begins_with.ensures.begins ∙ c.if-begins_with.false) in
+    (sym c.is_kept.ensures.kept ∙ c.if-is_kept.false) in
     record { kept = ap (λ (more : List ℕ). l.lines.items ++ more) (sym other) ∙ l.invariant.kept }
 
 pub loop-rest-preserved-in_ok-push_line : goal.loop-rest-preserved-in_ok-push_line
@@ -19,7 +19,7 @@ loop-rest-preserved-in_ok-push_line c =
     let line = c.first_line.result.0.now in
     let rest = kept c.args.word.now c.first_line.result.1.now in
     let more = kept-line c.args.word.now line l.rest.now c.first_line.result.1.now c.first_line.ensures.lines
-    (sym c.begins_with.ensures.begins ∙ c.if-begins_with.true) in
+    (sym c.is_kept.ensures.kept ∙ c.if-is_kept.true) in
     record {
       kept = ap (λ (lines : List ℕ). lines ++ rest) c.in_ok-push_line.ensures.line
           ∙ append_assoc l.lines.items (fed line) rest

@@ -1,7 +1,7 @@
 use Rattle.std.proofs.Common.{◌<◌, List, map, subst, sym}
 use Rattle.std.specs.List.{sum}
 use Rattle.race_tables.specs.Rows.{Row}
-use Rattle.races_command.proofs.Ending.{all_fit, file_ends, some_ends, some_fit}
+use Rattle.races_command.proofs.Ending.{all_fit, file_ends, some_ends, some_fit, table_stops}
 use Rattle.races_command.proofs.command.search.Goals as goal
 
 pub send_table-requires : goal.send_table-requires
@@ -14,6 +14,11 @@ pub returns-in-Ok : goal.returns-in-Ok
 returns-in-Ok g c = record {
   searches = file_ends _ _ _ _ c.write_found.result _ _ _ c.in-Ok.ensures.explores c.as_slice.ensures.value c.as_slice-in-Ok.ensures.value
       c.in-Ok-send_table.ensures.sends c.send_table.ensures.later c.write_found.ensures.writes;
+}
+
+pub returns-in-Err-send_table : goal.returns-in-Err-send_table
+returns-in-Err-send_table g c = record {
+  searches = table_stops _ _ _ c.in-Err-send_table.fault _ _ c.in-Ok.ensures.explores c.as_slice.ensures.value c.in-Err-send_table.ensures.sends;
 }
 
 pub send_table-requires-in-Err-NoMemory : goal.send_table-requires-in-Err-NoMemory

@@ -1,0 +1,37 @@
+//! A refusal is told: its own text, and a line after it.
+
+ghost use Rattle.std.specs.Prelude.{◌≡◌};
+ghost use Rattle.refusal_words.specs.Meanings as meanings;
+ghost use Rattle.refusal_words.specs.Tellings.{TellsInWords};
+
+use crate::meanings::meaning;
+use host_port::{Channel, Host, HostFault};
+use run_inputs::{Refusal, refuse};
+use std::alloc::Global;
+
+/// Sends the text of a refusal on Fault and a line after it, and answers the exit status, or 7 if memory runs out meanwhile. A host that fails
+/// is ignored here.
+pub fn tell<H: Host>(refusal: Refusal, line: &[u8], host: &mut H) -> u8
+    ensures tells { TellsInWords refusal line.now result (H.view host.old) (H.view host.new) }
+{
+    let status = refuse(refusal, host);
+    match host.emit(Channel::Fault, line) {
+        Ok(()) => status,
+        Err(HostFault::Failed) => status,
+        Err(HostFault::NoMemory) => 7,
+    }
+}
+
+/// Sends the text of a refusal on Fault and the line that it means after it, and answers the exit status, or 7 if memory runs out meanwhile. A host
+/// that fails is ignored here. `usage` has the words of the command.
+pub fn tell_meaning<H: Host>(alloc: Global, refusal: Refusal, usage: &str, host: &mut H) -> u8
+    ensures tells { TellsInWords refusal (meanings.meaning usage.now refusal) result (H.view host.old) (H.view host.new) }
+{
+    match meaning(alloc, refusal, usage) {
+        Ok(line) => tell(refusal, line.as_slice(), host),
+        Err(_) => {
+            let _ = refuse(refusal, host);
+            7
+        }
+    }
+}
