@@ -8,16 +8,20 @@ use crate::serving::serve;
 use crate::session::Session;
 use crate::words::words_of;
 use host_port::{Host, HostFault};
+use refusal_words::tell_meaning;
 use replayed_run::Replay;
-use run_inputs::{Inputs, Refusal, fetch_run, refuse};
+use run_inputs::{Inputs, Refusal, fetch_run};
 use std::alloc::Global;
 use std::io::{Read, Write};
+
+/// The words of the command.
+const USAGE: &str = "--schedule FILE [--disk0 FILE] [--disk1 FILE] IMAGE ..";
 
 /// Serves packets for the run that the arguments after the program's name ask for, and answers the exit status.
 ///
 /// The status is 0 once the debugger has gone away, ended the session, or closed the input. Else it is the status with which `run` refuses
-/// these arguments and files, and its text is sent on Fault: 2 also for arguments that concern the output of a run; 3 if the input or the
-/// output failed; 7 if memory ran out.
+/// these arguments and files, and its text is sent on Fault, with a line after it that says it in words: 2 also for arguments that concern the
+/// output of a run; 3 if the input or the output failed; 7 if memory ran out.
 pub fn debug<H: Host, R: Read, W: Write>(
     alloc: Global,
     args: &[String],
@@ -29,7 +33,7 @@ pub fn debug<H: Host, R: Read, W: Write>(
 {
     match carry_out(alloc, args, host, input, output) {
         Ok(()) => 0,
-        Err(refusal) => told(refusal, host),
+        Err(refusal) => told(alloc, refusal, host),
     }
 }
 
@@ -104,9 +108,9 @@ fn or_refused(ended: Result<(), HostFault>) -> Result<(), Refusal>
     }
 }
 
-// Sends the text of a refusal, and answers its status.
-fn told<H: Host>(refusal: Refusal, host: &mut H) -> u8
+// Sends the text of a refusal and what it means, and answers its status.
+fn told<H: Host>(alloc: Global, refusal: Refusal, host: &mut H) -> u8
     ensures refused { result ≢ 0 }
 {
-    refuse(refusal, host)
+    tell_meaning(alloc, refusal, USAGE, host)
 }

@@ -3,17 +3,23 @@
 use crate::drawing::picture_of;
 use crate::words::read_words;
 use host_port::{Channel, Host};
-use run_inputs::{Refusal, fetch_run, refuse};
+use refusal_words::tell_meaning;
+use run_inputs::{Refusal, fetch_run};
 use std::alloc::Global;
+
+/// The words of the command.
+const USAGE: &str =
+    "[--from EVENT] [--events 1 to 2000] [--title 1 to 90 BYTES] --schedule FILE [--disk0 FILE] [--disk1 FILE] IMAGE ..";
 
 /// Draws the picture of the run that the arguments after the program's name ask for: sends it on Out, and answers the exit status.
 ///
 /// The status is 0 if it was sent. Else it is the status with which `run` refuses these arguments and files, and its text is sent on
-/// Fault: 2 also for arguments that concern the output of a run, or a part that can't be; 3 if the host failed; 7 if memory ran out.
+/// Fault, with a line after it that says it in words: 2 also for arguments that concern the output of a run, or a part that can't be; 3 if
+/// the host failed; 7 if memory ran out.
 pub fn timeline<H: Host>(alloc: Global, args: &[String], host: &mut H) -> u8 {
     match carry_out(alloc, args, host) {
         Ok(()) => 0,
-        Err(refusal) => refuse(refusal, host),
+        Err(refusal) => tell_meaning(alloc, refusal, USAGE, host),
     }
 }
 
