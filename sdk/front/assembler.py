@@ -72,7 +72,7 @@ def operand_fault(kind, operand, span, labels):
             return (UNKNOWN_NAME if is_name else BAD_LINE), f"`{operand}` stands where a number has to be"
         return None if span[0] <= value_of(operand) <= span[1] else (OUT_OF_RANGE, f"`{operand}` isn't {span[0]} to {span[1]}")
     if kind == '"text"':
-        return None if QUOTED.fullmatch(operand) else (BAD_LINE, "it takes a text between quotes")
+        return None if QUOTED.fullmatch(operand) else (BAD_LINE, f"`{operand}` stands where a text between quotes has to be")
     inner = re.fullmatch(r"(.*)\((.*)\)", operand)
     if not inner:
         return BAD_LINE, f"`{operand}` stands where `n(register)` has to be, as in `0(a0)`"
@@ -81,6 +81,8 @@ def operand_fault(kind, operand, span, labels):
 
 def word_fault(word, operands, labels):
     """What is wrong with a word and its operands, as a fault and words, or none."""
+    if word not in FORMS and word.endswith(":"):
+        return BAD_LINE, f"`{word[:-1]}` is no label: a letter or `_` comes first, and then letters, digits and `_`"
     if word not in FORMS:
         kind = "directive" if word.startswith(".") else "instruction"
         return (UNKNOWN_NAME if re.fullmatch(rf"\.?{NAME}", word) else BAD_LINE), f"there is no {kind} `{word}`{like(word, FORMS)}"
@@ -110,7 +112,17 @@ def fault_words(lines, number, fault):
         return f"`{operands[-1]}` is too far away, or an odd number of bytes: {'4 KiB' if word.startswith('b') else '1 MiB'} each way at most"
     if fault == OUT_OF_RANGE:
         return "it isn't at a multiple of 4 (write `.align` before it), or doesn't fit RAM"
-    return "a directive is here a second time or too late, or this isn't written as one of the forms of docs/ASSEMBLER.md"
+    return directive_words(lines, number, word)
+
+
+def directive_words(lines, number, word):
+    """The words for a line that is bad although its operands are good: a directive that is here already, or too late."""
+    before = [at for at, line in enumerate(lines[:number - 1], 1) if parts_of(line)[1] == word]
+    if before and word in (".place", ".entry", ".priority", ".stack"):
+        return f"`{word}` is on line {before[0]} already, and may be written once"
+    if word == ".place":
+        return "`.place` comes before all labels, instructions and content"
+    return "it isn't written as one of the forms of docs/ASSEMBLER.md"
 
 
 def size_of(word, operands, at):

@@ -43,6 +43,16 @@ def plain(prog):
     return argparse.RawDescriptionHelpFormatter(prog, max_help_position=26, width=100)
 
 
+# what argparse says of wrong words, and the words for it
+MESSAGES = [
+    (r"^the following arguments are required: (.*)$", r"`PROG` needs \1"),
+    (r"^argument (\S+): expected one argument$", r"`\1` needs a value"),
+    (r"^argument (\S+): invalid choice: '(.*)' \(choose from (.*)\)$", r"\1: `\2` isn't one of \3"),
+    (r"^argument ", ""),
+    (r"'(\w+)'(?=,|$)", r"\1"),
+]
+
+
 class Parser(argparse.ArgumentParser):
     """A parser whose help begins with examples, and whose refusals are like the others."""
     examples = ""
@@ -53,9 +63,9 @@ class Parser(argparse.ArgumentParser):
 
     def error(self, message):
         """Refuses words, and says how to see what there is."""
-        missing = re.fullmatch("the following arguments are required: (.*)", message)
-        said = f"`{self.prog}` needs {missing[1]}" if missing else message
-        raise Refusal(f"{said} ({' '.join(['xinu help', *self.prog.split()[1:2]])} has examples)")
+        for pattern, words in MESSAGES:
+            message = re.sub(pattern, words.replace("PROG", self.prog), message)
+        raise Refusal(f"{message} ({' '.join(['xinu help', *self.prog.split()[1:2]])} has examples)")
 
 
 def number_between(least, most):
@@ -207,23 +217,29 @@ def read_words(arguments):
     if rest:
         options = commands[words.what].format_usage() if words.what else "--version --help"
         near = like(rest[0].partition("=")[0], re.findall(r"--\w+", options))
-        raise Refusal(f"{' '.join(['xinu', *([words.what] if words.what else [])])} has no `{rest[0]}`{near} "
-                      f"({' '.join(['xinu help', *([words.what] if words.what else [])])} has its options)")
+        of = f" {words.what}" if words.what else ""
+        raise Refusal(f"`xinu{of}` has no `{rest[0]}`{near} (xinu help{of} has its options)")
     return words, commands
 
 
 def main(arguments):
     """Carries out what the arguments say. The answer is the status."""
     try:
-        return carry_out(*read_words(arguments))
+        status = carry_out(*read_words(arguments))
+        sys.stdout.flush()
+        return status
     except Refusal as refusal:
         sys.stdout.flush()
         said = refusal.words if "\nxinu: " in refusal.words else f"xinu: {refusal.words}"
         print(painted("xinu:", RED, sys.stderr).join(said.rsplit("xinu:", 1)), file=sys.stderr)
         return refusal.status
     except KeyboardInterrupt:
-        return running.interrupted()
-    except BrokenPipeError:
+        sys.stderr.write("\n")
+        return 130
+    except OSError as fault:
+        # what is left of the output can't be written either
         os.dup2(os.open(os.devnull, os.O_WRONLY), sys.stdout.fileno())
-        return 1
+        if not isinstance(fault, BrokenPipeError):
+            print(f"xinu: {fault.filename or 'the output'}: {fault.strerror}", file=sys.stderr)
+        return 3
 

@@ -1,4 +1,5 @@
 """Files that a person names: why one can't be read, in words."""
+import difflib
 import os
 
 from .refusal import Refusal
@@ -6,12 +7,15 @@ from .refusal import Refusal
 
 def why_not(path):
     """Why a file can't be read, or none."""
+    folder, name = os.path.split(path)
+    if not os.path.isdir(folder or "."):
+        return f"there is no folder {folder}"
     if not os.path.exists(path):
-        folder = os.path.dirname(path) or "."
-        return "there is no such file" if os.path.isdir(folder) else f"there is no folder {folder}"
+        near = difflib.get_close_matches(name, os.listdir(folder or "."), 1, 0.75)
+        return "there is no such file" + (f"; did you mean {os.path.join(folder, near[0])}?" if near else "")
     if os.path.isdir(path):
-        return "it is a folder"
-    return None if os.access(path, os.R_OK) else "it may not be read"
+        return f"it is a folder: name a file, such as {os.path.join(path, 'NAME')}"
+    return None if os.access(path, os.R_OK) else "you may not read it (ls -l shows who may)"
 
 
 def read(path, what, most=None):
@@ -21,9 +25,12 @@ def read(path, what, most=None):
         raise Refusal(f"{what} {path}: {reason}")
     size = os.path.getsize(path)
     if most is not None and size > most:
-        raise Refusal(f"{what} {path}: it has {size} bytes, and may have {most}")
-    with open(path, "rb") as file:
-        return file.read()
+        raise Refusal(f"{what} {path}: it has {size} bytes, and may have at most {most}")
+    try:
+        with open(path, "rb") as file:
+            return file.read()
+    except OSError as fault:
+        raise Refusal(f"{what} {path}: it can't be read ({fault.strerror})") from fault
 
 
 def writable(path, what):
@@ -34,7 +41,7 @@ def writable(path, what):
     if not os.path.isdir(folder):
         raise Refusal(f"{what} {path}: there is no folder {folder} (mkdir {folder})")
     if not os.access(path if os.path.exists(path) else folder, os.W_OK):
-        raise Refusal(f"{what} {path}: it may not be written")
+        raise Refusal(f"{what} {path}: you may not write it (ls -l shows who may)")
     return path
 
 

@@ -90,7 +90,7 @@ def disk_refusal(words, status, said):
     if status == 12:
         return f"disk {words.image} has no file `{words.name}` (xinu disk ls {words.image} names its files)"
     if status == 13:
-        return f"disk {words.image} has no room for {words.file}, which has {os.path.getsize(words.file)} bytes"
+        return f"disk {words.image} has no room for {words.file}, which has {os.path.getsize(words.file)} bytes (xinu disk mkfs makes a larger one)"
     return {7: "memory ran out on this computer", 3: "the output couldn't be written: is the disk full?"}.get(status, said.strip())
 
 

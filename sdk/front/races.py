@@ -6,6 +6,7 @@ import subprocess
 import sys
 
 from . import endings
+from .files import writable
 from .home import program
 from .places import Places
 from .refused import refuse
@@ -65,12 +66,11 @@ def place_line(inputs, places, path, event):
     return found[0].split(": ", 1)[1] if found else f"event {event}"
 
 
-def tell(inputs, lines, rows, words, places):
+def tell(inputs, lines, rows, stem, places):
     """Tells each outcome, and keeps a schedule of it."""
-    stem = os.path.splitext(os.path.basename(words.program[0]))[0]
     total = sum(count for count, _, _ in rows)
     for number, (count, at, said) in enumerate(rows, 1):
-        path = os.path.normpath(os.path.join(words.into, f"{stem}.outcome{number}.schedule"))
+        path = f"{stem}.outcome{number}.schedule"
         schedule, events = preempted(lines, at)
         lay(path, schedule)
         print(f"Outcome {number} ({count} of {total} runs): {outcome_words(said)}")
@@ -81,6 +81,8 @@ def tell(inputs, lines, rows, words, places):
 
 def races(words, programs, folder):
     """Runs the programs on every placement of preemptions, and tells the outcomes."""
+    stem = os.path.join(words.into, os.path.splitext(os.path.basename(words.program[0]))[0])
+    writable(f"{stem}.outcome1.schedule", "--into")
     inputs, lines, steps = base(words, programs, folder)
     within = words.within or max(1, min(WITHIN[words.preemptions] or 1, steps))
     line = ["races", "--preemptions", str(words.preemptions), "--within", str(within), *inputs.words()]
@@ -88,7 +90,7 @@ def races(words, programs, folder):
     if ran.returncode:
         refuse((ran.stderr or b"").decode("utf-8", "replace"), ran.returncode, inputs)
     rows = outcomes(ran.stdout.decode("utf-8", "replace"))
-    tell(inputs, lines, rows, words, Places(programs))
+    tell(inputs, lines, rows, os.path.normpath(stem), Places(programs))
     placed = f"at most {words.preemptions} preemption{'s' * (words.preemptions != 1)} within {within} steps"
     say(f"{len(rows)} outcome{'s' * (len(rows) != 1)}, {placed}.")
     return 0

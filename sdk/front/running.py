@@ -2,7 +2,6 @@
 import os
 import re
 import subprocess
-import sys
 
 from . import endings
 from .files import read, writable
@@ -106,9 +105,3 @@ def check(words, programs, folder):
         told = subprocess.run([program(), "explain", "--trace", words.trace, *inputs.words()], capture_output=True, text=True, check=False)
         say(f"{words.trace}, {told.stdout.strip() or told.stderr.strip()}")
     return judged.returncode
-
-
-def interrupted():
-    """What is said if somebody stops a command."""
-    sys.stderr.write("\n")
-    return 130

@@ -19,7 +19,7 @@ def number_fault(word, number):
     if not re.fullmatch("[0-9]{1,10}", number):
         return f"`{number}` is no number of one to ten decimal digits"
     if not 1 <= int(number) <= MOST_EVENTS:
-        return f"`{number}` isn't 1 to {MOST_EVENTS}, of which `{word}` takes one"
+        return f"`{number}` isn't 1 to {MOST_EVENTS}, the numbers that `{word}` takes"
     return None
 
 
@@ -37,7 +37,7 @@ def typed_fault(tokens):
     wrong = [token for token in tokens if not re.fullmatch("[0-9a-fA-F]{2}", token)]
     if wrong:
         return f"`{wrong[0]}` is no byte of two hexadecimal digits (sdk/type makes such lines of a text)"
-    return f"it types {len(tokens)} bytes, and a line at most 64" if len(tokens) > 64 else None
+    return f"it types {len(tokens)} bytes, and a line at most 64: go on with `type` on another line" if len(tokens) > 64 else None
 
 
 def line_fault(line):

@@ -66,10 +66,8 @@ def next_line(number):
     return text
 
 
-def keep(session, words):
+def keep(session, path, words):
     """Keeps the schedule, and says its name."""
-    stem = os.path.splitext(os.path.basename(words.program[0]))[0]
-    path = writable(words.keep, "--keep") if words.keep else free_name(stem, ".schedule")
     lay(path, session.lines)
     line = " ".join([*(["--libc"] if words.libc else []), "--schedule", path, *words.program])
     say(f"What was typed is kept in {path}.", f"xinu run {line}  makes this run again")
@@ -77,6 +75,8 @@ def keep(session, words):
 
 def term(words, programs, folder):
     """Types at a program what a person types, line by line."""
+    stem = os.path.splitext(os.path.basename(words.program[0]))[0]
+    path = writable(words.keep, "--keep") if words.keep else free_name(stem, ".schedule")
     session, number = Terminal(words, inputs_of(words, programs, folder)), 0
     is_typed = sys.stdin.isatty()
     session.go_on()
@@ -93,5 +93,5 @@ def term(words, programs, folder):
     close_line(session.run.console)
     sentence, next_step = endings.ending(session.run, None)
     say(sentence if next_step != "rounds" else sentence.replace(f"After {session.run.rounds} rounds it", "It"))
-    keep(session, words)
+    keep(session, path, words)
     return 0
