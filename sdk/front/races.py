@@ -73,7 +73,7 @@ def tell(inputs, lines, rows, stem, places):
         path = f"{stem}.outcome{number}.schedule"
         schedule, events = preempted(lines, at)
         lay(path, schedule)
-        print(f"Outcome {number} ({count} of {total} runs): {outcome_words(said)}")
+        print(f"Outcome {number}, {count} of {total} runs: {outcome_words(said)}")
         for steps, event in zip(at, events):
             print(f"  a quantum ends after {steps} steps, at event {event}: {place_line(inputs, places, path, event)}")
         print(f"  kept in {path}")

@@ -8,7 +8,7 @@ from .files import read, writable
 from .home import program
 from .places import Places
 from .refused import refuse
-from .runs import followed, inputs_of, settled
+from .runs import followed, ignore, inputs_of, settled
 from .telling import close_line, put, say
 
 MOST_TRACE = 64 << 20
@@ -25,12 +25,14 @@ def typed_again(words):
 def run(words, programs, folder):
     """Shows what the console sends as it comes, and says how the run ended."""
     inputs = inputs_of(words, programs, folder)
-    show = print if words.transcript else lambda line: None
-    on_text = (lambda text: None) if words.transcript else put
-    made = followed(inputs, on_text, on_line=show) if words.schedule else settled(inputs, [], words.rounds, on_text, show)
-    if inputs.outs and not words.schedule:
-        # the run was cut where nobody could go on: once more up to there, so that its disks are written
-        made = followed(inputs)
+    on_text, on_line = (ignore, print) if words.transcript else (put, ignore)
+    if words.schedule:
+        made = followed(inputs, on_text, on_line=on_line)
+    else:
+        made = settled(inputs, [], words.rounds, on_text)
+        if words.transcript or inputs.outs:
+            # the run until nobody could go on was cut there, and has looks at the tables in its transcript: once more without them
+            followed(inputs, on_line=on_line)
     if not words.transcript:
         close_line(made.console)
     for trap in made.traps[:4]:

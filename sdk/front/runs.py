@@ -129,7 +129,11 @@ class Run:
             self.exits.append(line.split())
 
 
-def followed(inputs, on_text=lambda text: None, is_over=lambda run: False, on_line=lambda line: None):
+def ignore(_):
+    """Takes no notice."""
+
+
+def followed(inputs, on_text=ignore, is_over=lambda run: False, on_line=ignore):
     """A run from its transcript: what the console sends is handed on as it comes, and the run is cut at the first tables at which it is over."""
     run, tables = Run(), None
     for line in transcript(inputs):
@@ -158,12 +162,12 @@ def looks_within(most):
         done += count
 
 
-def settled(inputs, lines, most, on_text=lambda text: None, on_line=lambda line: None):
+def settled(inputs, lines, most, on_text=ignore):
     """A run through some lines of a schedule, and rounds after them until it is done or nobody can go on, at most so many. The inputs' file of
     the schedule is left with the lines and those rounds."""
     counts = list(looks_within(most))
     lay(inputs.schedule, [*lines, *(line for count in counts for line in (f"round {count}", "dump"))])
-    run = followed(inputs, on_text, lambda run: run.tables.is_stuck(), on_line)
+    run = followed(inputs, on_text, lambda run: run.tables.is_stuck())
     run.rounds = sum(counts[:run.looks])
     lay(inputs.schedule, [*lines, *([f"round {run.rounds}"] if run.rounds else [])])
     return run

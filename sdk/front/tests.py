@@ -1,14 +1,15 @@
 """Tests of the front door beside its pages, which sdk/check plays: that what a debugger reads changes no program, that sources are built as
-by their Makefiles, that listings have the assembler's addresses, and that kept schedules have their outcomes.
+by their Makefiles, that listings have the assembler's addresses, that the page of a run holds it, and that kept schedules have their outcomes.
 
 usage: python3 -m front.tests        (in the folder sdk of a copy, into which they write)"""
 import argparse
 import glob
+import json
 import os
 import re
 import subprocess
 
-from . import assembler, elf, programs
+from . import assembler, elf, programs, step
 from .home import TOP, program
 from .races import outcomes
 from .schedules import preempted
@@ -99,6 +100,21 @@ def kept_schedules_have_their_outcomes(row, place):
     return is_right and len(rows) > 1
 
 
+def page_holds_the_run(source, place):
+    """The page that `step` writes has the source and the schedule of the run where the page looks for them, and is else as it was."""
+    page, out = f"<p>{step.PLACE}null</script></p>", os.path.join(TOP, place + ".html")
+    os.makedirs(os.path.dirname(step.PAGES[1]), exist_ok=True)
+    with open(step.PAGES[1], "w", encoding="utf-8") as file:
+        file.write(page)
+    subprocess.run([os.path.join(TOP, "sdk", "xinu"), "step", "--no-open", "--out", out, source], check=True, capture_output=True)
+    before, held, after = re.fullmatch(r"(<p>.*?>)(.*)(</script></p>)", step.text_of(out), re.S).groups()
+    for path in (out, step.PAGES[1]):
+        os.remove(path)
+    run = json.loads(held)
+    is_whole = before + "null" + after == page and "<" not in held
+    return is_whole and run["programs"] == [{"name": "hello.s", "text": step.text_of(source)}] and run["schedule"] == "round 2\n"
+
+
 def cases():
     """The tests: a name, the tools that it needs, and the function with its argument."""
     for folder in C_FOLDERS:
@@ -107,6 +123,7 @@ def cases():
         yield f"{folder}: built as by its Makefile", needs, sources_are_built_as_made, folder
     for path in sorted(path for pattern in SOURCES for path in glob.glob(os.path.join(TOP, pattern))):
         yield f"{os.path.relpath(path, TOP)}: addresses of its lines", [], listing_has_addresses, path
+    yield "the page of a run", [], page_holds_the_run, os.path.join(TOP, "examples", "hello", "hello.s")
     for row in RACES:
         yield f"{row[0]}: schedules of its outcomes", [], kept_schedules_have_their_outcomes, row
 

@@ -26,8 +26,9 @@ class Tool(NamedTuple):
     """A thing that isn't in the repository."""
     name: str
     purpose: str
-    package: str | None  # that of Debian; the toolchain has none
+    package: str | None  # that of Debian, if one has it
     is_there: Callable[[], bool]
+    cure: str | None = None  # what brings it, if no package does
 
 
 PYTHON = Tool("python3", "runs the programs of sdk/", "python3", is_program("python3"))
@@ -37,7 +38,7 @@ LIBRARY = Tool("picolibc", "the C library of sdk/libc", "picolibc-riscv64-unknow
 GDB_TOOL = Tool(GDB, "debugs a run, forward and backward", "gdb-multiarch", is_program(GDB))
 PATCH = Tool("patch", "makes the solution of lab 9, and the programs that try the grader", "patch", is_program("patch"))
 HOST_COMPILER = Tool("cc", "compiles examples/heap_in_c, a program for this computer", "gcc", is_program("cc"))
-TOOLCHAIN = Tool("rt", "Rattle's toolchain: builds xinu_run, and proves it", None, is_program("rt"))
+TOOLCHAIN = Tool("rt", "Rattle's toolchain: builds xinu_run, and proves it", None, is_program("rt"), "install the toolchain of Rattle")
 
 ALL = [TOOLCHAIN, PYTHON, MAKE, COMPILER_TOOL, LIBRARY, GDB_TOOL, PATCH, HOST_COMPILER]
 
@@ -49,7 +50,7 @@ def install(tools):
 
 def missing(tool):
     """Why something that needs a tool can't be done, and what mends it."""
-    return f"no {tool.name} ({install([tool])})" if tool.package else f"no {tool.name} (install the toolchain of Rattle)"
+    return f"no {tool.name} ({tool.cure or install([tool])})"
 
 
 def lacks(tools):
