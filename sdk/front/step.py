@@ -5,7 +5,7 @@ import os
 import webbrowser
 
 from .files import writable
-from .home import TOP
+from .home import SDK, TOP
 from .refusal import Refusal
 from .running import schedule_for
 from .telling import say
@@ -46,7 +46,9 @@ def held(programs, inputs):
         stem, ending = os.path.splitext(name)
         found.append({"name": name, "text": text_of(program.typed)} if ending == ".s" else
                      {"name": stem + ".elf" if ending == ".c" else name, "bytes": bytes_of(program.image)})
-    sources = {os.path.basename(program.typed): text_of(program.typed) for program in programs if program.typed.endswith(".c")}
+    in_c = [program.typed for program in programs if program.typed.endswith(".c")]
+    of_sdk = [os.path.join(SDK, name) for name in ("start.S", "xinu.c", "xinu.h")] if in_c else []
+    sources = {os.path.basename(path): text_of(path) for path in of_sdk + in_c}
     disks = {name: bytes_of(path) for name, path in (("disk0", inputs.disk0), ("disk1", inputs.disk1)) if path}
     return {"v": 1, "about": "", "programs": found, "schedule": text_of(inputs.schedule), "races": [1, 60], "sources": sources, **disks}
 
