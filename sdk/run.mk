@@ -10,7 +10,7 @@
 RUN ?= $(addprefix --schedule ,$(wildcard schedule.txt)) $(PROGRAMS:=.elf) $(ASSEMBLED:=.s)
 
 # xinu_run takes files of at most 1048576 bytes: of a larger one what a debugger reads is kept in NAME.debug alone.
-XFIT = test $$(wc -c < $@) -le 1048576 || { cp $@ $(@:.elf=.debug) && $(CROSS)strip -g $@; }
+XFIT = rm -f $(@:.elf=.debug); test $$(wc -c < $@) -le 1048576 || { cp $@ $(@:.elf=.debug) && $(CROSS)strip -g $@; }
 
 .PHONY: run why gdb picture
 run why gdb: all

@@ -31,6 +31,14 @@ def trap_words(trap):
     return f"Process {trap[0]} was trapped: {TRAPS.get(trap[1], trap[1])}."
 
 
+def strange_words(call):
+    """A call of a number that the kernel doesn't have, in a sentence: so the C library tells with which status a program exits."""
+    process, number = call[0], int(call[2])
+    if 1000 < number < 1256:
+        return f"Process {process} exited with status {number - 1000}."
+    return f"Process {process} made call {number}, which there isn't: 1 to 44 are calls (docs/CALLS.md)."
+
+
 def ending(run, has_schedule):
     """How a run ended, in a sentence, and what to do next in another if there is something to do."""
     at = f"at tick {run.tables.tick()}" if run.tables else ""

@@ -9,27 +9,36 @@ from . import endings
 from .files import writable
 from .home import program
 from .places import Places
+from .refusal import Refusal
 from .refused import refuse
-from .runs import Tables, inputs_of, lay, read_schedule, settled
-from .schedules import COUNTED, preempted, runs_of
+from .runs import Tables, followed, inputs_of, lay, read_schedule, settled
+from .schedules import events_of, preempted, runs_of
 from .telling import say
 
 # for each number of preemptions within how many steps they are placed if nobody says it: some thousand runs
-WITHIN = {0: 0, 1: 1000, 2: 60, 3: 20}
+WITHIN = {0: 1, 1: 1000, 2: 60, 3: 20}
+MOST_EVENTS = 1000000
 SLACK = 10  # rounds after those in which the program ended, for the runs that take longer
 OUTCOME = re.compile(r"outcome (\d+): (\d+) schedules?, first with preemptions after (.*)")
 
 
 def base(words, programs, folder):
-    """The inputs of the base, the lines of its schedule and how many steps it has."""
+    """The inputs of the base, the lines of its schedule, and within how many steps preemptions are placed."""
     inputs = inputs_of(words, programs, folder)
     if words.schedule:
         lines = read_schedule(words.schedule)
+        followed(inputs)
     else:
         made = settled(inputs, [], words.rounds)
         lines = [f"round {made.rounds + SLACK}"]
         lay(inputs.schedule, lines)
-    return inputs, lines, sum(count for kind, count in runs_of(lines) if kind == "step")
+    events = sum(map(events_of, lines))
+    if events > MOST_EVENTS:
+        raise Refusal(f"the run has {events} events, and races takes at most {MOST_EVENTS}: name a shorter --schedule")
+    steps = sum(count for kind, count in runs_of(lines) if kind == "step")
+    if words.within and words.within > steps:
+        raise Refusal(f"--within: the schedule has {steps} steps, and preemptions can't be placed within {words.within}")
+    return inputs, lines, words.within or max(1, min(WITHIN[words.preemptions], steps))
 
 
 def outcomes(printed):
@@ -83,8 +92,7 @@ def races(words, programs, folder):
     """Runs the programs on every placement of preemptions, and tells the outcomes."""
     stem = os.path.join(words.into, os.path.splitext(os.path.basename(words.program[0]))[0])
     writable(f"{stem}.outcome1.schedule", "--into")
-    inputs, lines, steps = base(words, programs, folder)
-    within = words.within or max(1, min(WITHIN[words.preemptions] or 1, steps))
+    inputs, lines, within = base(words, programs, folder)
     line = ["races", "--preemptions", str(words.preemptions), "--within", str(within), *inputs.words()]
     ran = subprocess.run([program(), *line], stdout=subprocess.PIPE, stderr=None if sys.stderr.isatty() else subprocess.PIPE, check=False)
     if ran.returncode:

@@ -37,9 +37,8 @@ def run(words, programs, folder):
         close_line(made.console)
     for trap in made.traps[:4]:
         say(endings.trap_words(trap))
-    for call in made.exits:
-        say(f"Process {call[1]} exited with status {int(call[4]) - 1000}." if call[4].isdigit() and 1000 < int(call[4]) < 1256
-            else f"Process {call[1]} made the call {call[4]}, which the kernel doesn't have.")
+    for call in made.strange[:4]:
+        say(endings.strange_words(call))
     sentence, next_step = endings.ending(made, words.schedule)
     say(sentence, endings.advice("why" if made.traps else next_step, typed_again(words)))
     return 0
@@ -98,7 +97,7 @@ def picture(words, programs, folder):
 def check(words, programs, folder):
     """Says whether a text is the transcript of a run, and if not, where it goes wrong."""
     read(words.trace, "the text", MOST_TRACE)
-    inputs = inputs_of(words, programs, folder)
+    inputs, _ = schedule_for(words, programs, folder)
     judged = subprocess.run([program(), "check", "--trace", words.trace, *inputs.words()], capture_output=True, text=True, check=False)
     if judged.returncode not in (0, 10):
         refuse(judged.stderr, judged.returncode, inputs)

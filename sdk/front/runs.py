@@ -113,7 +113,7 @@ class Run:
     """What came out of a run."""
 
     def __init__(self):
-        self.console, self.traps, self.exits, self.tables, self.end = bytearray(), [], [], None, None
+        self.console, self.traps, self.strange, self.tables, self.end = bytearray(), [], [], None, None
         self.looks, self.rounds = 0, 0  # how often the tables were printed, and how many rounds were added until nobody could go on
 
     def take(self, line):
@@ -126,7 +126,7 @@ class Run:
         elif word == "end":
             self.end = line[4:]
         elif " unknown " in line and word == "call":
-            self.exits.append(line.split())
+            self.strange.append(line.split()[1:])
 
 
 def ignore(_):

@@ -43,6 +43,21 @@ def debugging_changes_nothing(folder, place):
     return made(folder, place, []) == made(folder, place, ["CFLAGS=-g0"]) != {}
 
 
+def large_programs_fit(_, place):
+    """A program that is too large with what a debugger reads has that in a file of its own, and is loaded as it would be without it."""
+    folder = os.path.join(TOP, place)
+    os.mkdir(folder)
+    with open(os.path.join(folder, "large.c"), "w", encoding="utf-8") as file:
+        file.write("#include <xinu.h>\nchar bytes[1040000] = { 1 };\nprocess main(void) { return bytes[0]; }\n")
+    made_parts = []
+    for flags in ("", "-g0"):
+        subprocess.run(["make", "-s", "-B", "-f", os.path.join(TOP, "sdk", "xinu.mk"), "PROGRAMS=large", f"CFLAGS={flags}"], cwd=folder, check=True)
+        made_parts.append((loaded(os.path.join(folder, "large.elf")), os.path.exists(os.path.join(folder, "large.debug")),
+                           os.path.getsize(os.path.join(folder, "large.elf")) <= programs.MOST_BYTES))
+    subprocess.run(["rm", "-r", folder], check=True)
+    return made_parts[0][0] == made_parts[1][0] and [rest for _, *rest in made_parts] == [[True, True], [False, True]]
+
+
 def sources_are_built_as_made(folder, place):
     """A source that `xinu` builds is what its Makefile makes of it, if that is the only program."""
     path = glob.glob(os.path.join(TOP, folder, "*.c"))[0]
@@ -121,6 +136,7 @@ def cases():
         needs = [MAKE, COMPILER_TOOL] + [LIBRARY] * ("libc" in folder)
         yield f"{folder}: what a debugger reads changes nothing", needs, debugging_changes_nothing, folder
         yield f"{folder}: built as by its Makefile", needs, sources_are_built_as_made, folder
+    yield "a large program fits with what a debugger reads", [MAKE, COMPILER_TOOL], large_programs_fit, None
     for path in sorted(path for pattern in SOURCES for path in glob.glob(os.path.join(TOP, pattern))):
         yield f"{os.path.relpath(path, TOP)}: addresses of its lines", [], listing_has_addresses, path
     yield "the page of a run", [], page_holds_the_run, os.path.join(TOP, "examples", "hello", "hello.s")
