@@ -23,7 +23,8 @@ def gdb(words, programs, folder):
     if made.traps:
         start, said = [*start, "continue"], "gdb stops at the trap; reverse-step goes back from it."
     elif debug:
-        start, said = [*start, "tbreak main", "continue"], "No process is trapped: gdb stops at main. `continue` goes to the end, `reverse-continue` back."
+        start += ["tbreak main", "continue"]
+        said = "No process is trapped: gdb stops at main. `continue` goes to the end, `reverse-continue` back."
     else:
         said = "gdb stops at the first instruction, and knows no names; stepi and reverse-stepi go on and back."
     say(said)

@@ -1,12 +1,10 @@
-"""The commands that make files: new, asm, disk."""
+"""The commands that begin a program: new, asm."""
 import os
-import subprocess
 
-from .files import read, writable, free_name
-from .home import SDK, TOP, program, typed_name
+from .files import writable
+from .home import SDK, TOP, typed_name
 from .programs import assembled
 from .refusal import Refusal
-from .refused import disk_words
 from .telling import say
 
 C_SOURCE = """/* {name}.c - main, greeter */
@@ -80,59 +78,3 @@ def asm(words):
     assembled(words.source, out, words.elf)
     say(f"{words.source} is assembled: {out}")
     return 0
-
-
-def disk_refusal(words, status, said):
-    """The words for what an action on a disk was refused for."""
-    if status == 6:
-        block, rule = map(int, said.split()[4::2])
-        return disk_words(1, words.image, block, rule)
-    if status == 12:
-        return f"disk {words.image} has no file `{words.name}` (xinu disk ls {words.image} names its files)"
-    if status == 13:
-        return f"disk {words.image} has no room for {words.file}, which has {os.path.getsize(words.file)} bytes (xinu disk mkfs makes a larger one)"
-    return {7: "memory ran out on this computer", 3: "the output couldn't be written: is the disk full?"}.get(status, said.strip())
-
-
-def look_at(words):
-    """Refuses words of an action on a disk that can't be meant."""
-    if words.action == "mkfs" and not (words.blocks.isdecimal() and 14 <= int(words.blocks) <= 65542 and len(words.blocks) <= 5):
-        raise Refusal(f"`{words.blocks}` isn't 14 to 65542, the blocks that a disk with files may have")
-    name = getattr(words, "name", None)
-    if name is not None and not 1 <= len(name.encode()) <= 27:
-        raise Refusal(f"`{name}` has {len(name.encode())} bytes, and the name of a file 1 to 27")
-    if words.action != "mkfs":
-        read(words.image, "the disk", 33557504)
-    if words.action == "put":
-        read(words.file, "the file")
-
-
-def file_lines(printed):
-    """The lines of `ls` with the names as texts."""
-    for line in printed.splitlines():
-        _, size, name = line.split()
-        yield f"{int(size):>9}  {bytes.fromhex(name).decode('utf-8', 'backslashreplace')}"
-
-
-def disk(words):
-    """Does an action on a disk with files."""
-    look_at(words)
-    given = {"mkfs": ["blocks"], "get": ["image", "name"], "put": ["image", "name", "file"]}.get(words.action, ["image"])
-    # what follows `--` is no option, whatever it begins with
-    line = [program(), "disk", words.action, "--", *(getattr(words, name) for name in given)]
-    if words.action in ("mkfs", "get", "put", "repair"):
-        line[3:3] = ["--out", writable(words.out or default_out(words), "--out")]
-    ran = subprocess.run(line, capture_output=True, text=True, check=False)
-    if ran.returncode:
-        raise Refusal(disk_refusal(words, ran.returncode, ran.stderr), ran.returncode)
-    print("\n".join(file_lines(ran.stdout)) or "no file" if words.action == "ls" else ran.stdout.rstrip("\n"), end="\n" if ran.stdout or words.action == "ls" else "")
-    return 0
-
-
-def default_out(words):
-    """The file that an action writes if none is named: for `put` the disk itself, for `get` a new file of the name."""
-    if words.action == "get":
-        return free_name(words.name, "")
-    if words.action in ("mkfs", "repair"):
-        raise Refusal(f"`xinu disk {words.action}` needs --out FILE, the disk that is made")
-    return words.image

@@ -79,7 +79,7 @@ def compiled(path, out, place, words):
     line = [COMPILER, *compiler_words(path, place, words.libc, options), *([] if words.libc else [f"-O{words.opt}"]), "-o", out]
     ran = subprocess.run(line, stderr=subprocess.PIPE, text=True, check=False)
     if ran.returncode:
-        raise Refusal(f"{ran.stderr}xinu: {path} doesn't compile: the compiler says why above{of_library(path, ran.stderr, words.libc)}", 1)
+        raise Refusal(f"{path} doesn't compile: the compiler says why above{of_library(path, ran.stderr, words.libc)}", 1, ran.stderr)
     print(ran.stderr, end="", file=sys.stderr)
 
 

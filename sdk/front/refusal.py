@@ -2,8 +2,8 @@
 
 
 class Refusal(Exception):
-    """Words for a person, and the status with which `xinu` ends."""
+    """Words for a person, the status with which `xinu` ends, and what another program said before."""
 
-    def __init__(self, words, status=2):
+    def __init__(self, words, status=2, before=""):
         super().__init__(words)
-        self.words, self.status = words, status
+        self.words, self.status, self.before = words, status, before

@@ -30,19 +30,26 @@ DISK_RULES = {
     3: "a file is larger than the disk", 4: "a number of a block names no block, or one too many", 5: "an index block hasn't the place that it says",
     6: "a block is in use twice", 7: "a block is neither in use nor free",
 }
-WHOLE = {"0": "it isn't 8 to 65536 whole blocks of 512 bytes", "1": "it isn't whole blocks of 512 bytes, or not as many as a disk has"}
+NO_MEMORY, FULL = "memory ran out on this computer", "the output couldn't be written: is the disk full?"
+WHOLE = {0: "it isn't 8 to 65536 whole blocks of 512 bytes", 1: "it isn't whole blocks of 512 bytes, or not as many as a disk has"}
+
+
+def shared(parts, others):
+    """The first address that two programs share, or none."""
+    starts = [max(part.address, other.address) for part in parts for other in others
+              if max(part.address, other.address) < min(part.address + part.length, other.address + other.length)]
+    return min(starts, default=None)
 
 
 def overlap(programs, number):
     """Which earlier program a program overlaps, and what to do."""
-    parts = [elf.loaded_parts(open_bytes(program.image)) for program in programs]
-    for earlier, others in enumerate(parts[:number - 1]):
-        for part in parts[number - 1]:
-            for other in others:
-                at = max(part.address, other.address)
-                if at < min(part.address + part.length, other.address + other.length):
-                    return (f"it shares address 0x{at:08x} with {programs[earlier].typed}, which ends at 0x{elf.end_of(open_bytes(programs[earlier].image)):08x}: "
-                            "give it another place (PLACE in its Makefile, `.place` in assembler)")
+    contents = [open_bytes(program.image) for program in programs[:number]]
+    parts = [elf.loaded_parts(content) for content in contents]
+    for program, others, content in zip(programs, parts[:-1], contents):
+        at = shared(parts[-1], others)
+        if at is not None:
+            return (f"it shares address 0x{at:08x} with {program.typed}, which ends at 0x{elf.end_of(content):08x}: "
+                    "give it another place (PLACE in its Makefile, `.place` in assembler)")
     return "it shares an address with an earlier program: give it another place"
 
 
@@ -55,8 +62,10 @@ def open_bytes(path):
 def disk_words(number, path, block, rule):
     """What is wrong with a disk."""
     if rule == 0:
-        return f"disk {number}, {path}: {WHOLE[str(number)]} (xinu disk mkfs 64 --out {path} makes one of files)" if number else f"disk {number}, {path}: {WHOLE['0']}"
-    return f"disk {number}, {path}, block {block}: {DISK_RULES[rule]} (rule {rule} of docs/DISK.md; xinu disk repair {path} --out FILE keeps what can be kept)"
+        cure = f" (xinu disk mkfs 64 --out {path} makes one of files)" if number == 1 else ""
+        return f"disk {number}, {path}: {WHOLE[number]}{cure}"
+    cure = f"rule {rule} of docs/DISK.md; xinu disk repair {path} --out FILE keeps what can be kept"
+    return f"disk {number}, {path}, block {block}: {DISK_RULES[rule]} ({cure})"
 
 
 def words_for(said, status, inputs):
@@ -69,13 +78,14 @@ def words_for(said, status, inputs):
     if re.fullmatch(r"xinu: image \d+ overlaps", first):
         return f"{inputs.programs[number - 1].typed}: {overlap(inputs.programs, number)}"
     if first.startswith("xinu: no room for image"):
-        return f"{inputs.programs[number - 1].typed}: RAM has no room for its stack above the programs: make them, the gaps between them or the stack smaller"
+        said = "RAM has no room for its stack above the programs: make them, the gaps between them or the stack smaller"
+        return f"{inputs.programs[number - 1].typed}: {said}"
     if disk := re.fullmatch(r"xinu: disk (\d+) block (\d+) rule (\d+)", first):
         return disk_words(number, (inputs.disk0, inputs.disk1)[number], *map(int, disk.groups()[1:]))
     if first == "xinu: no memory":
-        return "memory ran out on this computer"
+        return NO_MEMORY
     if first == "xinu: host fault":
-        return "the output couldn't be written: is the disk full?"
+        return FULL
     if status < 0:
         return f"xinu_run was stopped by signal {-status}; tell its authors"
     return first.removeprefix("xinu: ") or f"xinu_run ended with status {status}"

@@ -62,6 +62,7 @@ def step(words, programs, folder):
     run = json.dumps(held(programs, inputs), ensure_ascii=False).replace("<", "\\u003c")
     with open(out, "w", encoding="utf-8") as file:
         file.write(page[:begin] + run + page[page.index("</script>", begin):])
-    is_open = not words.no_open and (os.environ.get("DISPLAY") or os.environ.get("WAYLAND_DISPLAY")) and webbrowser.open("file://" + os.path.abspath(out))
+    has_display = os.environ.get("DISPLAY") or os.environ.get("WAYLAND_DISPLAY")
+    is_open = has_display and not words.no_open and webbrowser.open("file://" + os.path.abspath(out))
     say(f"The page of this run is {out}." + ("" if is_open else " Open it in a browser."))
     return 0
