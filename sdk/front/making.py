@@ -24,7 +24,7 @@ process main(void)
 
 	resume(create(greeter, 1024, 20, "greeter", printed, 0));
 	wait(printed);
-	sleepms(2);			/* the run ends with its last process: let the console send */
+	sleepms(10);			/* the run ends with its last process: let the console send */
 	return OK;
 }}
 """
@@ -37,7 +37,7 @@ main:   li   a0, 0              # the console
         la   a1, line
         li   a2, 6
         sys  write
-        li   a0, 2              # the run ends with its last process:
+        li   a0, 10             # the run ends with its last process:
         sys  sleepms            #   let the console send
         sys  exit
 """

@@ -76,7 +76,7 @@ def keep(session, path, words):
 def term(words, programs, folder):
     """Types at a program what a person types, line by line."""
     stem = os.path.splitext(os.path.basename(words.program[0]))[0]
-    path = writable(words.keep, "--keep") if words.keep else free_name(stem, ".schedule")
+    path = writable(words.keep or free_name(stem, ".schedule"), "--keep")
     session, number = Terminal(words, inputs_of(words, programs, folder)), 0
     is_typed = sys.stdin.isatty()
     session.go_on()
