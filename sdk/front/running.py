@@ -64,7 +64,8 @@ def call_under_way(inputs, line, places):
     if not found:
         return None
     process, event = found.groups()
-    steps = [step for step in explained(inputs, ["--steps", f"{event}..{event}"]) if step.startswith(f"event {event}: {process} ")]
+    step_of = re.compile(rf"event {event}: {process}[ ,]")
+    steps = [step for step in explained(inputs, ["--steps", f"{event}..{event}"]) if step_of.match(step)]
     named = [places.lines(addresses) for addresses in map(places.addresses_in, steps)]
     return next((f"{name}, {place}" if name else place for lines in named for name, place in lines.values()), None)
 

@@ -4,38 +4,17 @@ import sys
 
 from . import endings
 from .files import free_name, writable
-from .refusal import Refusal
 from .runs import inputs_of, lay, read_schedule, settled
 from .telling import close_line, put, say
-
-ECHO_ROOM, LINE_ROOM, MOST_TYPED = 20, 127, 64
-RETURN, END_OF_INPUT = 13, 4
-
-
-def echo_of(byte):
-    """How many bytes the echo of a typed byte has at most: return has two, and a control character may erase another one."""
-    return 1 if 32 <= byte < 127 or byte > 127 else 2 if byte == RETURN else 6
-
-
-def typed(text):
-    """The lines of a schedule that type a line: in parts whose echo has room, each sent before the next (sdk/type does so too)."""
-    part, echo = [], 0
-    for byte in text:
-        if echo + echo_of(byte) > ECHO_ROOM or len(part) == MOST_TYPED:
-            yield from (f"type {' '.join(part)}", f"tx {echo}")
-            part, echo = [], 0
-        part, echo = part + [f"{byte:02x}"], echo + echo_of(byte)
-    if part:
-        yield from (f"type {' '.join(part)}", f"tx {echo}")
+from .typed import END_OF_INPUT, LINE_ROOM, RETURN, typed
 
 
 class Terminal:
     """A session: the lines of the schedule so far, the run through it, and how much of its console was shown."""
 
-    def __init__(self, words, inputs):
-        self.inputs, self.most = inputs, words.rounds
+    def __init__(self, words, inputs, folder):
+        self.inputs, self.most = inputs._replace(schedule=os.path.join(folder, "typed.txt")), words.rounds
         self.lines = [line for line in read_schedule(words.schedule) if line.strip()] if words.schedule else []
-        self.inputs = inputs._replace(schedule=inputs.schedule + ".grown")
         self.run, self.shown = None, 0
 
     def go_on(self, echo=b""):
@@ -55,15 +34,14 @@ class Terminal:
         self.go_on(echo)
 
 
-def next_line(number):
-    """The next line that a person types, or none at the end. Refused if it is too long for the console."""
-    line = sys.stdin.buffer.readline()
-    if not line:
-        return None
-    text = line.rstrip(b"\r\n")
-    if len(text) > LINE_ROOM:
-        raise Refusal(f"line {number} that is typed has {len(text)} characters, and the console edits at most {LINE_ROOM}")
-    return text
+def typed_lines():
+    """The lines that a person types, up to the end of the input; one that is too long for the console isn't taken."""
+    for line in sys.stdin.buffer:
+        text = line.rstrip(b"\r\n")
+        if len(text) <= LINE_ROOM:
+            yield text
+        else:
+            say(f"That line has {len(text)} characters, and the console edits at most {LINE_ROOM}: it wasn't typed.")
 
 
 def keep(session, path, words):
@@ -77,17 +55,16 @@ def term(words, programs, folder):
     """Types at a program what a person types, line by line."""
     stem = os.path.splitext(os.path.basename(words.program[0]))[0]
     path = writable(words.keep or free_name(stem, ".schedule"), "--keep")
-    session, number = Terminal(words, inputs_of(words, programs, folder)), 0
-    is_typed = sys.stdin.isatty()
+    session, is_terminal = Terminal(words, inputs_of(words, programs, folder), folder), sys.stdin.isatty()
     session.go_on()
+    lines = typed_lines()
     try:
         while not session.is_over():
-            number += 1
-            text = next_line(number)
+            text = next(lines, None)
             if text is None:
                 session.type(bytes([END_OF_INPUT]))
                 break
-            session.type(text + bytes([RETURN]), text + b"\r\n" if is_typed else b"")
+            session.type(text + bytes([RETURN]), text + b"\r\n" if is_terminal else b"")
     except KeyboardInterrupt:
         say("")
     close_line(session.run.console)
