@@ -74,7 +74,7 @@ def compiled(path, out, place, words):
     read(path, "the source")
     lack = lacks([COMPILER_TOOL] + [LIBRARY] * words.libc)
     if lack:
-        raise Refusal(f"{path} can't be compiled: {lack}")
+        raise Refusal(f"{path} can't be compiled: {'; '.join(lack)}")
     options = {"OPT": f"-O{words.opt}"} if words.libc else {}
     line = [COMPILER, *compiler_words(path, place, words.libc, options), *([] if words.libc else [f"-O{words.opt}"]), "-o", out]
     ran = subprocess.run(line, stderr=subprocess.PIPE, text=True, check=False)

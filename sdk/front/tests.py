@@ -145,11 +145,11 @@ def cases():
 
 
 def main():
-    """Plays the tests. A line for each says how it came out: a word, what is missing if it wasn't played, and its name."""
+    """Plays the tests. A line for each says how it came out: a word, its name, and what is missing if it wasn't played."""
     for number, (name, needs, test, argument) in enumerate(cases()):
         lack = lacks(needs)
         came_out = "lacks" if lack else "passed" if test(argument, f"test{number}") else "failed"
-        print(came_out, lack or "", name, sep="\t", flush=True)
+        print(came_out, name, *lack, sep="\t", flush=True)
 
 
 if __name__ == "__main__":

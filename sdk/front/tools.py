@@ -54,5 +54,5 @@ def missing(tool):
 
 
 def lacks(tools):
-    """The first of some tools that isn't there, as a reason, or none."""
-    return next((missing(tool) for tool in tools if not tool.is_there()), None)
+    """Those of some tools that aren't there, each as a reason."""
+    return [missing(tool) for tool in dict.fromkeys(tools) if not tool.is_there()]
