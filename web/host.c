@@ -65,6 +65,17 @@ int close(int fd)
 	return (int)told(host_close(fd));
 }
 
+/* as the program of the sessions calls it: the number, as two digits */
+int __xpg_strerror_r(int e, char *to, u64 room)
+{
+	if (room < 3)
+		return 34;
+	to[0] = (char)('0' + e / 10 % 10);
+	to[1] = (char)('0' + e % 10);
+	to[2] = 0;
+	return 0;
+}
+
 i64 readlink(const char *name, char *to, u64 room)
 {
 	(void)name, (void)to, (void)room;

@@ -26,6 +26,11 @@ export function current_at(run, n) {
 	run.currents[i] ??= Number(/^proc (\d+) current/m.exec(run.states.tables[i])?.[1] ?? 0);
 	return run.currents[i];
 }
+// The process that runs, or ran last if the null process does.
+export function last_running(run, n) {
+	while (n > run.first && current_at(run, n) === 0) n--;
+	return current_at(run, n);
+}
 
 // The calls, each under way from its event to that of its answer; who took which semaphore, how many messages a port has room for, and at which
 // events a call was refused.

@@ -2,7 +2,7 @@
 import { make, table } from "./dom.js";
 import { RAM } from "./elf.js";
 import { NAMES, PC } from "./gdb.js";
-import { state } from "./history.js";
+import { last_running, state } from "./history.js";
 import { page } from "./page.js";
 import { colour_of, registers_at } from "./processes.js";
 import { bytes_of_hex, count, decimal, hex } from "./text.js";
@@ -24,10 +24,9 @@ const ALWAYS = [PC, 2, 1, 10, 11, 17, 8, 9, 5], ADDRESSES = [PC, 1, 2];
 const value_words = (i, value) => (!ADDRESSES.includes(i) && (value < 4096 || value > 0xfffff000) ? String(value | 0) : `0x${hex(value)}`);
 
 export function register_view() {
-	const { ran, at, chosen, last_shown } = page, look = ran.looks.get(at), t = state(ran, at);
-	const number = [chosen, t.current || null, last_shown, look?.of.keys().next().value].find((one) => look?.of.has(one)), values = look?.of.get(number);
+	const { ran, at, chosen } = page, look = ran.looks.get(at), t = state(ran, at);
+	const number = [chosen, last_running(ran, at), look?.of.keys().next().value].find((one) => look?.of.has(one)), values = look?.of.get(number);
 	if (!values) return make("div", { class: "half" }, make("h3", {}, "Registers"), make("p", { class: "none" }, look ? "no process is left" : ".."));
-	page.last_shown = number;
 	const old = registers_at(at - 1, number);
 	const cells = ORDER.filter((i) => values[i] || ALWAYS.includes(i)).map((i) => make("span", { class: `${values[i] ? "" : "zero"} ${old && old[i] !== values[i] ? "changed" : ""}`,
 		title: `${NAMES[i]} = 0x${hex(values[i], 8)} = ${values[i] | 0}` }, make("b", {}, NAMES[i]), value_words(i, values[i])));

@@ -18,9 +18,8 @@ export const page = {
 	tabs: [],
 	file: 0,
 	editors: new Map(),
-	// the process whose registers were asked for, and the one whose were shown last
+	// the process whose registers were asked for
 	chosen: null,
-	last_shown: 1,
 	// whether registers are being fetched, and the timer of `play`
 	is_looking: false,
 	timer: null,

@@ -32,6 +32,10 @@ async function connected(url) {
 		} else if (["Runtime.consoleAPICalled", "Runtime.exceptionThrown", "Log.entryAdded"].includes(message.method)) said.push(JSON.stringify(message.params).slice(0, 600));
 		else if (message.method === "Network.requestWillBeSent") requests.push(message.params.request.url.slice(0, 80));
 	};
+	socket.onclose = () => {
+		for (const task of waiting.values()) task.reject(new Error("the browser has gone"));
+		waiting.clear();
+	};
 	let id = 0;
 	const send = (method, params = {}) => new Promise((resolve, reject) => {
 		waiting.set(++id, { resolve, reject });
@@ -48,7 +52,7 @@ export async function browser({ width = 1280, height = 900, dark = false } = {})
 	const page = await connected(list.find((one) => one.type === "page").webSocketDebuggerUrl), { send } = page;
 	for (const part of ["Runtime", "Log", "Page", "Network", "DOM", "Accessibility"]) await send(`${part}.enable`);
 	const size = (w, h) => send("Emulation.setDeviceMetricsOverride", { width: w, height: h, deviceScaleFactor: 1, mobile: w < 800 });
-	const theme = (is_dark) => send("Emulation.setEmulatedMedia", { features: [{ name: "prefers-color-scheme", value: is_dark ? "dark" : "light" }] });
+	const theme = (is_dark) => send("Emulation.setEmulatedMedia", { features: [{ name: "prefers-color-scheme", value: is_dark ? "dark" : "light" }, { name: "prefers-reduced-motion", value: "reduce" }] });
 	await size(width, height);
 	await theme(dark);
 	const ev = async (text) => {

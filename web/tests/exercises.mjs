@@ -2,7 +2,7 @@
 import { sleep } from "./browser.mjs";
 import { story_of } from "./native.mjs";
 
-export const READY = "(() => { const { ran, at, is_looking } = xinu_page.page; return Boolean(ran?.states && !is_looking && ran.looks.has(at) && at >= ran.steps_from && at < ran.steps_to && !document.getElementById('run').disabled); })()";
+export const READY = "(() => { if (!globalThis.xinu_page) return false; const { ran, at, is_looking } = xinu_page.page; return Boolean(ran?.states && !is_looking && ran.looks.has(at) && at >= ran.steps_from && at < ran.steps_to && !document.getElementById('run').disabled); })()";
 // What the stepper shows, as text.
 const SHOWN = "document.getElementById('what').innerText + '\\n--\\n' + document.getElementById('see').innerText";
 

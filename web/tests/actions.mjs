@@ -1,0 +1,155 @@
+// actions.mjs - what a person does on the page: types, clicks, uploads, plays, stops
+import fs from "node:fs";
+import os from "node:os";
+import path from "node:path";
+import { sleep } from "./browser.mjs";
+import { READY, open_exercise } from "./exercises.mjs";
+import { assembled, native } from "./native.mjs";
+
+const AT = "xinu_page.page.at", COUNT = "xinu_page.page.ran.count", SCHEDULE = "xinu_page.page.work.schedule";
+const inner = (id) => `document.getElementById(${JSON.stringify(id)}).innerText`;
+const press = (b, id) => b.ev(`document.getElementById(${JSON.stringify(id)}).click()`);
+const named = async (b, name) => b.ev(`xinu_page.page.exercises.findIndex((one) => one.name.endsWith(${JSON.stringify(name)}))`);
+const open = async (b, name) => open_exercise(b, await named(b, name));
+
+// Puts a file into the field that a text beside it names.
+export async function upload(b, beside, name, data) {
+	const folder = fs.mkdtempSync(path.join(os.tmpdir(), "xinu-upload-")), file = path.join(folder, name);
+	fs.writeFileSync(file, data);
+	const { result } = await b.send("Runtime.evaluate", { expression: `[...document.querySelectorAll("input[type=file]")].find((one) => one.closest("label").innerText.startsWith(${JSON.stringify(beside)}))` });
+	await b.send("DOM.setFileInputFiles", { files: [file], objectId: result.objectId });
+	await sleep(200);
+	fs.rmSync(folder, { recursive: true, force: true });
+}
+
+async function typing(b, check) {
+	await open(b, "typing");
+	await b.ev("document.getElementById('typed').focus()");
+	await b.send("Input.insertText", { text: "a line" });
+	await b.key("Enter");
+	await b.until(READY);
+	await b.until(`${AT} === ${COUNT}`);
+	check(/a line[^]*>a line/.test(await b.ev(inner("paper"))), "a line that is typed is answered", () => b.ev(inner("paper")));
+	check((await b.ev(SCHEDULE)).includes("type 61 20 6c 69 6e 65 0a\n"), "what was typed is in the schedule");
+}
+async function schedule(b, check) {
+	await open(b, "turns");
+	for (let k = 0; k < 7; k++) await press(b, "forth");
+	await b.until(READY);
+	await press(b, "cut");
+	await b.until(`${COUNT} === 7`);
+	const press_added = (label) => b.ev(`[...document.querySelectorAll("#schedule button")].find((one) => one.textContent === ${JSON.stringify(label)}).click()`);
+	await press_added("+tick");
+	await b.until(`${COUNT} === 8 && ${AT} === 8`);
+	check((await b.ev(SCHEDULE)).endsWith("tick 1\n"), "the schedule is cut, and a tick added");
+	await b.ev("(() => { const one = document.querySelector('#schedule textarea'); one.value = 'step 1\\nwalk 2\\n'; one.dispatchEvent(new Event('input')); })()");
+	await press(b, "run");
+	await b.until("!document.getElementById('fault').hidden");
+	check(/line 2, “walk 2”/.test(await b.ev(inner("fault"))), "a wrong line of the schedule is quoted", () => b.ev(inner("fault")));
+	await b.ev("(() => { const one = document.querySelector('#panels textarea'); one.value = '  nop\\n  walk\\n'; one.dispatchEvent(new Event('input')); })()");
+	await press(b, "run");
+	await b.until("/line 2, .walk/.test(document.getElementById('fault').innerText)");
+	check(true, "a wrong line of a program is quoted");
+}
+async function links(b, check, url) {
+	await open(b, "lost_update");
+	await b.ev("(() => { const one = document.querySelector('#schedule textarea'); one.value = 'step 21\\n'; one.dispatchEvent(new Event('input')); })()");
+	await press(b, "run");
+	await b.until(`${READY} && ${COUNT} === 21`);
+	await press(b, "share");
+	await sleep(200);
+	const link = await b.ev("location.hash");
+	check(link.startsWith("#w=") && link.length < 1500, `a link of ${link.length} letters`);
+	await b.open("about:blank");
+	await b.open(url + link);
+	await b.until(`globalThis.xinu_page && ${READY} && ${COUNT} === 21`);
+	check(await b.ev("document.getElementById('exercise').value") === "own" && await b.ev(SCHEDULE) === "step 21\n", "the link has the run");
+	await b.open("about:blank");
+	await b.open(`${url}#w=nothing`);
+	await b.until(`globalThis.xinu_page && ${READY}`);
+	check(await b.ev("xinu_page.page.work.programs[0].name") === "hello.s", "a damaged link is told, and the first exercise is there");
+}
+async function races(b, check) {
+	await open(b, "lost_update");
+	await press(b, "tab-races");
+	await press(b, "try");
+	await b.until("document.querySelectorAll('#outcomes tbody tr').length === 2");
+	await b.ev("document.querySelectorAll('#outcomes tbody button')[1].click()");
+	await b.until(`${READY} && xinu_page.page.beside`);
+	check(/end done/.test(await b.ev("xinu_page.page.ran.transcript")) && await b.ev("xinu_page.page.ran.transcript.includes('con 31')"), "the second outcome is stepped: it prints 1");
+	const at = await b.ev(AT);
+	await press(b, "forth");
+	await b.until(READY);
+	check(/the clock ticks/.test(await b.ev(inner("what"))) && at > 0, "it stands before the preemption", () => b.ev(inner("what")));
+	await press(b, "tab-beside");
+	const said = await b.ev(inner("beside"));
+	check(/differ: the first difference is marked/.test(said) && await b.ev("document.querySelectorAll('.first-difference').length") === 1, "the run before is beside it", () => said.slice(0, 400));
+	const rows = await b.ev("[...document.querySelectorAll('.first-difference td')].map((one) => one.innerText)");
+	check(rows[1] !== rows[3], "the marked lines differ", () => rows.join(" | "));
+	await press(b, "tab-races");
+	await press(b, "base");
+	await b.until(`${READY} && xinu_page.page.base === null && document.getElementById('tab-beside').hidden`);
+	check(await b.ev("xinu_page.page.ran.transcript.includes('con 32')"), "and back to the schedule before");
+	await press(b, "tab-step");
+}
+async function pictures(b, check) {
+	await open(b, "deadlock");
+	await press(b, "tab-picture");
+	await b.until("document.querySelector('#picture > div')?.shadowRoot.querySelector('svg')");
+	const [x, y] = await b.ev("(() => { const box = [...document.querySelector('#picture > div').shadowRoot.querySelectorAll('g')].find((one) => /^event 23/.test(one.querySelector('title')?.textContent || ''))?.getBoundingClientRect(); return box ? [box.x + box.width / 2, box.y + box.height / 2] : [0, 0]; })()");
+	await b.click(x, y);
+	await b.until("xinu_page.page.view === 'step'", 3000).catch(() => {});
+	check(await b.ev("xinu_page.page.view") === "step" && await b.ev(AT) > 0, "a click in the picture goes to its event", async () => `${x} ${y} ${await b.ev(AT)}`);
+	await press(b, "tab-transcript");
+	await b.ev("document.querySelectorAll('#transcript [data-event]')[3].click()");
+	check(await b.ev("xinu_page.page.view") === "step" && await b.ev(AT) === Number(await b.ev("document.querySelectorAll('#transcript [data-event]')[3].dataset.event")), "a click on a line goes to its event");
+	await press(b, "tab-story");
+	check(/wait in a circle/.test(await b.ev(inner("story"))), "the story tells of the circle");
+	await press(b, "tab-step");
+}
+async function uploads(b, check) {
+	await open(b, "hello");
+	const elf = assembled(await b.ev("xinu_page.page.work.programs[0].text"), "--elf"), asked = await b.ev(`${COUNT}`);
+	await b.ev("[...document.querySelectorAll('#files button')].at(-1).click()");
+	await upload(b, "Add a program built elsewhere", "other.elf", elf);
+	check(await b.ev("xinu_page.page.work.programs.length") === 2, "a program is added");
+	await press(b, "run");
+	await b.until("!document.getElementById('fault').hidden");
+	check(/lies in RAM where an earlier program does/.test(await b.ev(inner("fault"))), "two programs at one place are refused in words");
+	await b.ev("document.getElementById('file-0').click(); [...document.querySelectorAll('#panel-0 button')].find((one) => one.textContent === 'Remove').click()");
+	await press(b, "run");
+	await b.until(`${READY} && ${COUNT} === ${asked}`);
+	check(/ELF file/.test(await b.ev(inner("panels"))), "an ELF file runs as its text did");
+	await b.ev("[...document.querySelectorAll('#files button')].at(-1).click()");
+	await upload(b, "Put a file on it", "note.txt", "kept\n");
+	await b.until("xinu_page.page.work.disk1");
+	await b.until("/Save note.txt 5 bytes/.test(document.getElementById('panels').innerText)");
+	const disk = Buffer.from(await b.ev("Array.from(xinu_page.page.work.disk1)"));
+	check(native(["disk", "get", "disk", "note.txt", "--out", "got"], { disk }).files.got.toString() === "kept\n", "a file is put on the disk");
+}
+async function stopping(b, check) {
+	await open(b, "turns");
+	await b.ev("xinu_page.page.work.schedule = 'step 900000000\\n'; void xinu_page.run(); 0");
+	await b.until("!document.getElementById('stop').disabled");
+	await sleep(300);
+	await press(b, "stop");
+	await b.until("document.getElementById('status').innerText === 'Stopped' && !document.getElementById('run').disabled");
+	check(true, "a long run is stopped");
+	await b.ev("xinu_page.page.work.schedule = 'step 100000\\n'; void xinu_page.run(); 0");
+	await b.until(`${READY} && ${COUNT} === 100000`);
+	await press(b, "last");
+	await b.until(`${READY} && ${AT} === 100000`);
+	check(await b.ev("xinu_page.page.ran.first") === 90000, "a later stretch is fetched");
+	await press(b, "first");
+	await b.until(`${READY} && ${AT} === 0`);
+	await b.ev("document.getElementById('speed').value = '40'");
+	await press(b, "play");
+	await sleep(700);
+	await press(b, "play");
+	const at = await b.ev(AT);
+	check(at > 3, `Play goes on: to event ${at}`);
+}
+export async function actions(b, check, url) {
+	for (const part of [typing, schedule, races, pictures, uploads, stopping]) await part(b, check);
+	await links(b, check, url);
+}
