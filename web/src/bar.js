@@ -4,6 +4,7 @@ import { current_at, lines_at } from "./history.js";
 import { page } from "./page.js";
 import { colour_of } from "./processes.js";
 import { run_at } from "./schedules.js";
+import { decimal } from "./text.js";
 import { name_of } from "./told.js";
 
 // kinds of marks, the most telling first, with their variables of style.css
@@ -54,11 +55,12 @@ export function draw_bar(list) {
 	lay_legend(all, new Set(marks.map(([kind]) => kind)));
 }
 function lay_legend(all, kinds) {
-	const first = new Map();
-	for (const { process, event } of all) if (!first.has(process)) first.set(process, event);
-	const runs = [...first].sort((a, b) => a[0] - b[0]).slice(0, 9).map(([process, event]) => make("li", {}, make("span", { class: `swatch ${colour_of(process)}` }), `${name_of(page.ran, event, process)} runs`));
+	const began = new Map();
+	for (const { process, event } of all) if (!began.has(process)) began.set(process, event);
+	const runs = [...began].sort((a, b) => a[0] - b[0]).slice(0, 9).map(([process, event]) => make("li", {}, make("span", { class: `swatch ${colour_of(process)}` }), `${name_of(page.ran, event, process)} runs`));
 	const marks = MARKS.flatMap(([name, variable], kind) => (kinds.has(kind) ? [make("li", {}, make("span", { class: "swatch mark", style: `background:var(${variable})` }), name)] : []));
-	$("legend").replaceChildren(...runs, ...marks);
+	const { first, last, count } = page.ran, part = last - first < count ? [make("li", {}, `events ${decimal(first)} to ${decimal(last)} of ${decimal(count)}`)] : [];
+	$("legend").replaceChildren(...part, ...runs, ...marks);
 }
 // The place of the list at a point of the bar.
 export function place_of_click(click, length) {

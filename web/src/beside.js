@@ -6,7 +6,7 @@ import { set_schedule } from "./panels.js";
 import { load_stretch, run_of } from "./runs.js";
 import { run } from "./running.js";
 import { event_of_steps, steps_before } from "./schedules.js";
-import { go } from "./stepper.js";
+import { fetch_steps, go } from "./stepper.js";
 import { event_words, name_in, waits_for } from "./told.js";
 import { decimal } from "./text.js";
 
@@ -25,6 +25,7 @@ export function first_difference(left, right) {
 export async function load_beside(mine) {
 	const beside = await run_of({ ...page.work, schedule: page.base });
 	await load_stretch(beside, 0, null);
+	await fetch_steps(beside, 1);
 	if (mine !== page.running) return;
 	page.beside = beside;
 	show_beside();

@@ -4,10 +4,13 @@ import { before, state } from "./history.js";
 import { page } from "./page.js";
 import { place_of, place_words } from "./places.js";
 import { PC } from "./gdb.js";
-import { name_of, waits_for } from "./told.js";
+import { call_at, name_of, waits_for } from "./told.js";
 import { count } from "./text.js";
 
 export const registers_at = (n, number) => page.ran.looks.get(n)?.of.get(number);
+export const is_in_call = (number) => Boolean(call_at(page.ran, page.at, number));
+// Where a process stands in its source.
+export const place_at = (number) => place_of(page.ran, registers_at(page.at, number)?.[PC], is_in_call(number));
 const bare_name = (number) => (number === 0 ? "null process" : name_of(page.ran, page.at, number).replace(/^\d+ /, ""));
 export const colour_of = (number) => (number ? `p${(number - 1) % 8 + 1}` : "p0");
 
@@ -20,9 +23,9 @@ function process_row(process, choose) {
 	const { ran, at } = page, { number } = process, old = before(ran, at).procs.find((one) => one.number === number);
 	const cell = (value, kind, key) => make("td", { class: `${kind} ${!old || key && old[key] !== process[key] ? "changed" : ""}` }, value);
 	const label = number === 0 ? bare_name(0) : button(bare_name(number), () => choose(number), { class: "plain", title: "Show its registers", "aria-pressed": page.chosen === number });
-	const pc = number === 0 ? undefined : registers_at(at, number)?.[PC], is_same = old?.state === process.state;
+	const where = number === 0 ? "" : place_words(ran, registers_at(at, number)?.[PC], is_in_call(number)), is_same = old?.state === process.state;
 	return make("tr", { class: process.state }, cell(make("span", {}, make("span", { class: `swatch ${colour_of(number)}` }), String(number)), "num"), cell(label, "name"),
-		make("td", { class: is_same ? "" : "changed" }, make("span", { class: `state ${process.state}` }, waits_for(ran, at, process))), make("td", { class: "num where", title: place_words(ran, pc) }, place_words(ran, pc)),
+		make("td", { class: is_same ? "" : "changed" }, make("span", { class: `state ${process.state}` }, waits_for(ran, at, process))), make("td", { class: "num where", title: where }, where),
 		cell(String(process.priority), "num", "priority"), cell(number === 0 ? "" : String(process.parent), "num"), cell(process.message === null ? "" : String(process.message), "num", "message"));
 }
 
@@ -66,7 +69,7 @@ function devices(t, old) {
 
 // For a narrow screen, on which the source is far away: its lines around the next one.
 export function excerpt() {
-	const { ran, at } = page, place = place_of(ran, registers_at(at, state(ran, at).current)?.[PC]);
+	const { ran, at } = page, place = place_at(state(ran, at).current);
 	const text = place && (place.file ? ran.texts[place.file] : ran.sources[place.program].lines?.join("\n"));
 	if (!text) return make("div", { class: "excerpt" });
 	const from = Math.max(0, place.line - 3), lines = text.split("\n").slice(from, place.line + 2);

@@ -10,7 +10,7 @@ import { data_view, map_view, register_view, watched } from "./memory.js";
 import { page } from "./page.js";
 import { choose_key } from "./panels.js";
 import { place_of } from "./places.js";
-import { excerpt, process_table, queue_view, registers_at } from "./processes.js";
+import { excerpt, is_in_call, place_at, process_table, queue_view, registers_at } from "./processes.js";
 import { LIMIT, load_stretch, stretch_of } from "./runs.js";
 import { run_at } from "./schedules.js";
 import { steps_of } from "./steps.js";
@@ -130,7 +130,7 @@ export function mark_lines(follows = false) {
 	if (!ran?.states || ran.is_stale) return;
 	const t = state(ran, at), step = ran.steps.get(at + 1), done = run_at(ran.runs, at)?.kind === "step" && ran.steps.get(at);
 	const pc = t.current === 0 ? undefined : registers_at(at, t.current)?.[PC] ?? (step?.process === t.current ? step.pc : undefined);
-	const next = place_of(ran, pc), last = done ? place_of(ran, done.pc) : null, tags = tags_of(t);
+	const next = place_of(ran, pc, is_in_call(t.current)), last = done ? place_of(ran, done.pc) : null, tags = tags_of(t);
 	if (follows && next && page.file < page.tabs.length - 1 && editors.has(next.key) && choose_key(next.key)) return;
 	for (const [key, editor] of editors) {
 		if (key === "schedule") continue;
@@ -140,10 +140,9 @@ export function mark_lines(follows = false) {
 	editors.get("schedule")?.mark({ next: coming?.line || 0, done: coming?.line === past?.line ? 0 : past?.line || 0 }, true);
 }
 function tags_of(t) {
-	const { ran, at } = page;
 	return t.procs.filter((one) => one.number && one.number !== t.current).flatMap((process) => {
-		const place = place_of(ran, registers_at(at, process.number)?.[PC]);
-		return place ? [{ key: place.key, line: place.line, text: String(process.number), state: process.state, title: name_of(ran, at, process.number) }] : [];
+		const place = place_at(process.number);
+		return place ? [{ key: place.key, line: place.line, text: String(process.number), state: process.state, title: name_of(page.ran, page.at, process.number) }] : [];
 	});
 }
 
@@ -176,7 +175,7 @@ async function fetch_looks(ran, events) {
 	const answer = await xinu(["gdb", ...ran.args], { files: ran.files, stdin: bytes_of(questions(looks, labels)) });
 	for (const [event, found] of answers(utf8(answer.out), looks, labels)) ran.looks.set(event, found);
 }
-async function fetch_steps(ran, n) {
+export async function fetch_steps(ran, n) {
 	const from = Math.max(1, n - LISTED), to = Math.min(ran.count, n + LISTED);
 	if (to >= from) ran.steps = steps_of(utf8((await xinu(["explain", "--steps", `${from}..${to}`, ...ran.args], { files: ran.files })).out));
 	Object.assign(ran, { steps_from: n - LISTED, steps_to: to === ran.count ? Infinity : to });
