@@ -57,7 +57,7 @@ export function mark_beside() {
 	$("beside-states").replaceChildren(state_of("The schedule before", page.beside, n), state_of("This schedule", page.ran, page.at));
 	const rows = [...$("beside").querySelectorAll("tbody tr")].filter((row) => row.children.length === 4 && row.closest("#beside-states") === null);
 	for (const row of rows) row.classList.toggle("here", lines_at(page.ran, page.at).length > 0 && row.children[2].textContent === decimal(page.at));
-	if (page.view === "beside") $("beside").querySelector(".here, .first-difference")?.scrollIntoView({ block: "nearest" });
+	if (page.view === "beside") $("beside").querySelector(".here")?.scrollIntoView({ block: "nearest" });
 }
 function state_of(title, ran, n) {
 	const rows = state(ran, n).procs.map((one) => make("tr", { class: one.state }, make("td", {}, name_in(ran, one)), make("td", {}, make("span", { class: `state ${one.state}` }, waits_for(ran, n, one)))));

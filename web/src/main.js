@@ -1,7 +1,7 @@
 // main.js - the beginning: the controls, the keys, and what is run first
 import { $, keys_of_tabs, make, save, say } from "./dom.js";
 import { load, xinu } from "./engine.js";
-import { go_to_click, go_to_place, play, redraw, set_slider, WAYS } from "./stepper.js";
+import { go, go_to_click, go_to_place, play, redraw, set_slider, WAYS } from "./stepper.js";
 import { share, work_of, work_of_fragment } from "./links.js";
 import { page } from "./page.js";
 import { lay_panels, show_about } from "./panels.js";
@@ -60,7 +60,7 @@ function lay_foot() {
 	$("foot").replaceChildren(make("details", {}, make("summary", {}, `xinu_run ${version}, ${is_proved ? "proved" : "unproved build"}: what is claimed`),
 		make("p", {}, `This is the program xinu_run of Xinu as a verified program, ${what}. Module ${sum}.`),
 		make("p", {}, "The transcript, and so each table of a state, is what docs/THEOREM.md of the repository says of the program's output; registers and data are answers to gdb (docs/DEBUGGING.md). Story, Picture and Races are the output of commands. That Step shows what it was given, and its words for calls, is tested and not proved."),
-		make("p", {}, "Trusted beside what the program trusts: clang's back end for WebAssembly, wasm-ld and wasm-opt; the lines of the module that name the processor, which were changed; host.c and the page's own script; the browser."),
+		make("p", {}, "Trusted besides what the program trusts: clang's back end for WebAssembly, wasm-ld and wasm-opt; the lines of the module that name the processor, which were changed; host.c and the page's own script; the browser."),
 		make("p", {}, "The page sends nothing: its head forbids the browser to ask for anything from anywhere. What is written stays here, and in links that you copy.")));
 }
 
@@ -118,7 +118,7 @@ function take_key(event) {
 }
 
 // for tests: the page's state, and the command as the page runs it
-globalThis.xinu_page = { page, take, run, command: (args, files) => xinu(args, { files }) };
+globalThis.xinu_page = { page, take, run, go, command: (args, files) => xinu(args, { files }) };
 
 lay_exercises();
 lay_foot();

@@ -75,7 +75,7 @@ export async function run_of(work) {
 		names: work.programs.map(plain_name), texts: work.sources || {},
 		sources: work.programs.map((program, i) => source_of(program, regions[i])), functions: images.flatMap(functions_of).sort((a, b) => a.at - b.at),
 		count: Number(/after (\d+) event/.exec(story)?.[1] ?? events.total), end: /^end (\w+)$/m.exec(transcript.slice(-20))?.[1] || "",
-		runs: events.runs, looks: new Map(), steps: new Map(), steps_from: 0, steps_to: 0, ms: performance.now() - start, is_stale: false,
+		runs: events.runs, looks: new Map(), ms: performance.now() - start, is_stale: false,
 	};
 }
 function source_of(program, region) {
@@ -91,7 +91,7 @@ export async function load_stretch(run, first, told) {
 	if (states.status !== 0) throw new Refused(states.trap ? stopped_words(states) : states.err);
 	const earlier = first ? states.lines[0] || [] : [];
 	if (first) delete states.lines[0];
-	Object.assign(run, { runs: events.runs, first, last: first + states.at.length - 1, states, earlier, parsed: new Map(), currents: [] });
+	Object.assign(run, { runs: events.runs, first, last: first + states.at.length - 1, states, earlier, parsed: new Map(), currents: [], steps: new Map(), steps_from: 0, steps_to: 0 });
 	Object.assign(run, { stops: stops_of(run), folds: folds_of(run), stacks: stacks_of(run), output: output_of(run) }, calls_of(run));
 }
 // The first event before the stretch that an event is in.

@@ -75,6 +75,10 @@ export function dumped(runs, after, to) {
 	}
 	return parts.join("");
 }
+// The schedule of the events up to one, in lines of their own.
+export function schedule_to(runs, to) {
+	return runs.filter((run) => run.first <= to).map((run) => line_of(run, Math.min(run.n, to - run.first + 1)) + "\n").join("");
+}
 function each_dumped(run, skipped, n) {
 	if (run.kind === "dump") return "dump\n";
 	if (run.kind === "type") return run.bytes.slice(skipped, skipped + n).map((byte) => `type ${byte}\ndump\n`).join("");

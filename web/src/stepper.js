@@ -12,7 +12,7 @@ import { choose_key } from "./panels.js";
 import { place_of } from "./places.js";
 import { excerpt, is_in_call, place_at, process_table, queue_view, registers_at } from "./processes.js";
 import { LIMIT, load_stretch, stretch_of } from "./runs.js";
-import { run_at } from "./schedules.js";
+import { run_at, schedule_to } from "./schedules.js";
 import { steps_of } from "./steps.js";
 import { event_words, happenings, name_of, next_words } from "./told.js";
 import { bytes_of, count, decimal, last_at_most, utf8 } from "./text.js";
@@ -175,8 +175,9 @@ async function fetch_looks(ran, events) {
 	const answer = await xinu(["gdb", ...ran.args], { files: ran.files, stdin: bytes_of(questions(looks, labels)) });
 	for (const [event, found] of answers(utf8(answer.out), looks, labels)) ran.looks.set(event, found);
 }
+// `explain` goes through all of its schedule, so it gets that of the events up to the last one that is listed.
 export async function fetch_steps(ran, n) {
-	const from = Math.max(1, n - LISTED), to = Math.min(ran.count, n + LISTED);
-	if (to >= from) ran.steps = steps_of(utf8((await xinu(["explain", "--steps", `${from}..${to}`, ...ran.args], { files: ran.files })).out));
-	Object.assign(ran, { steps_from: n - LISTED, steps_to: to === ran.count ? Infinity : to });
+	const from = Math.max(1, n - LISTED), to = Math.min(ran.last, n + LISTED), files = { ...ran.files, "schedule.txt": schedule_to(ran.runs, to) };
+	if (to >= from) ran.steps = steps_of(utf8((await xinu(["explain", "--steps", `${from}..${to}`, ...ran.args], { files })).out));
+	Object.assign(ran, { steps_from: n - LISTED, steps_to: to === ran.last ? Infinity : to });
 }
