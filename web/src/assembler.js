@@ -60,9 +60,11 @@ export function layout_of(text) {
 
 // What is wrong with a line, by the number of its fault.
 export const FAULTS = {
-	1: "The line isn't written as the language asks: a comma, an operand or a quote is missing or too many; a number is where a register has to be; a directive is repeated, or .place is late.",
+	1: "The line isn't written as the language asks: a comma, an operand or a quote is missing or too many; a number is where a register has to be;"
+		+ " a directive is repeated, or .place is late.",
 	2: "An unknown name: there is no such instruction, directive, register, call or label.",
-	3: "Out of range: a number doesn't fit, a branch is too far, an instruction isn't at a multiple of 4 (write .align before it), or .entry isn't in the content.",
+	3: "Out of range: a number doesn't fit, a branch is too far, an instruction isn't at a multiple of 4 (write .align before it),"
+		+ " or .entry isn't in the content.",
 	4: "The label is written twice.",
 };
 // What `asm` refused, as { line, words }: the words quote the line.

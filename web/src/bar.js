@@ -8,9 +8,12 @@ import { decimal } from "./text.js";
 import { name_of } from "./told.js";
 
 // kinds of marks, the most telling first, with their variables of style.css
-const MARKS = [["trap or failed disk", "--red"], ["a refused call", "--amber"], ["a call or an answer", "--blue"], ["a byte sent or typed", "--green"], ["a tick", "--soft"]];
+const MARKS = [["trap or failed disk", "--red"], ["a refused call", "--amber"], ["a call or an answer", "--blue"],
+	["a byte sent or typed", "--green"], ["a tick", "--soft"]];
 // the height of the row of those who run, of the gap, and of the marks; the slider's knob leaves so much at both ends
 const RUNS = 8, GAP = 3, MARK = 15, INSET = 8;
+// how many processes the legend names
+const MOST_PROCESSES = 9;
 
 // Which mark an event has: an index of MARKS, or -1.
 function mark_of(run, n) {
@@ -57,9 +60,12 @@ export function draw_bar(list) {
 function lay_legend(all, kinds) {
 	const began = new Map();
 	for (const { process, event } of all) if (!began.has(process)) began.set(process, event);
-	const runs = [...began].sort((a, b) => a[0] - b[0]).slice(0, 9).map(([process, event]) => make("li", {}, make("span", { class: `swatch ${colour_of(process)}` }), `${name_of(page.ran, event, process)} runs`));
-	const marks = MARKS.flatMap(([name, variable], kind) => (kinds.has(kind) ? [make("li", {}, make("span", { class: "swatch mark", style: `background:var(${variable})` }), name)] : []));
-	const { first, last, count } = page.ran, part = last - first < count ? [make("li", {}, `events ${decimal(first)} to ${decimal(last)} of ${decimal(count)}`)] : [];
+	const item = (name, kind, style = "") => make("li", {}, make("span", { class: `swatch ${kind}`, style }), name);
+	const runs = [...began].sort((a, b) => a[0] - b[0]).slice(0, MOST_PROCESSES)
+		.map(([process, event]) => item(`${name_of(page.ran, event, process)} runs`, colour_of(process)));
+	const marks = MARKS.flatMap(([name, variable], kind) => (kinds.has(kind) ? [item(name, "mark", `background:var(${variable})`)] : []));
+	const { first, last, count } = page.ran;
+	const part = last - first < count ? [make("li", {}, `events ${decimal(first)} to ${decimal(last)} of ${decimal(count)}`)] : [];
 	$("legend").replaceChildren(...part, ...runs, ...marks);
 }
 // The place of the list at a point of the bar.

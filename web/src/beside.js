@@ -14,7 +14,8 @@ import { decimal } from "./text.js";
 const BEFORE = 12, MOST_ROWS = 300;
 
 // The lines that a run printed, each { event, line }.
-export const printed = (ran) => Object.keys(ran.states.lines).flatMap((key) => ran.states.lines[key].map((line) => ({ event: ran.first + Number(key), line })));
+export const printed = (ran) => Object.keys(ran.states.lines)
+	.flatMap((key) => ran.states.lines[key].map((line) => ({ event: ran.first + Number(key), line })));
 // The index of the first line in which two lists differ, or -1.
 export function first_difference(left, right) {
 	const i = left.findIndex((one, k) => one.line !== right[k]?.line);
@@ -43,10 +44,17 @@ function change_places(event) {
 function show_beside() {
 	const left = printed(page.beside), right = printed(page.ran), i = first_difference(left, right);
 	const from = Math.max(0, i < 0 ? 0 : i - BEFORE), to = Math.min(Math.max(left.length, right.length), from + MOST_ROWS);
-	const link = (one, does) => (one ? [make("td", { class: "num" }, button(decimal(one.event), () => does(one.event), { class: "plain", title: `to event ${one.event}` })), make("td", {}, make("code", {}, one.line))] : [make("td"), make("td")]);
-	const rows = Array.from({ length: to - from }, (_, k) => make("tr", { class: from + k === i ? "first-difference" : i >= 0 && from + k > i ? "later" : "" }, ...link(left[from + k], change_places), ...link(right[from + k], go)));
+	const cells = (one, does) => {
+		if (!one) return [make("td"), make("td")];
+		const event = button(decimal(one.event), () => does(one.event), { class: "plain", title: `to event ${one.event}` });
+		return [make("td", { class: "num" }, event), make("td", {}, make("code", {}, one.line))];
+	};
+	const kind = (k) => (k === i ? "first-difference" : i >= 0 && k > i ? "later" : "");
+	const rows = Array.from({ length: to - from }, (_, k) => from + k)
+		.map((k) => make("tr", { class: kind(k) }, ...cells(left[k], change_places), ...cells(right[k], go)));
 	const said = i < 0 ? "Both print the same lines." : `They print the same ${decimal(i)} lines, and then differ: the first difference is marked.`;
-	$("beside").replaceChildren(make("p", {}, said), make("div", { id: "beside-states" }), button("Step through the other run", () => change_places(0)),
+	$("beside").replaceChildren(make("p", {}, said), make("div", { id: "beside-states" }),
+		button("Step through the other run", () => change_places(0)),
 		table(`What they print${from ? `, from line ${from + 1} on` : ""}`, ["event", "the schedule before", "event", "this schedule"], rows));
 	mark_beside();
 }
@@ -60,6 +68,10 @@ export function mark_beside() {
 	if (page.view === "beside") $("beside").querySelector(".here")?.scrollIntoView({ block: "nearest" });
 }
 function state_of(title, ran, n) {
-	const rows = state(ran, n).procs.map((one) => make("tr", { class: one.state }, make("td", {}, name_in(ran, one)), make("td", {}, make("span", { class: `state ${one.state}` }, waits_for(ran, n, one)))));
-	return make("div", {}, make("p", { class: "event" }, event_words(ran, n)), table(`${title}, after event ${decimal(n)} of ${decimal(ran.count)}`, ["process", "state"], rows));
+	const rows = state(ran, n).procs.map((one) => {
+		const does = make("span", { class: `state ${one.state}` }, waits_for(ran, n, one));
+		return make("tr", { class: one.state }, make("td", {}, name_in(ran, one)), make("td", {}, does));
+	});
+	return make("div", {}, make("p", { class: "event" }, event_words(ran, n)),
+		table(`${title}, after event ${decimal(n)} of ${decimal(ran.count)}`, ["process", "state"], rows));
 }

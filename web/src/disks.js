@@ -21,7 +21,8 @@ export function disk_panel(key) {
 		const file = await bytes_of_file(event);
 		if (file) set(file.bytes, file.name);
 	} });
-	const said = disk ? make("p", {}, `${work[`${key}_name`] || key}, ${count(disk.length, "byte")} `, button("Take away", () => set(undefined, ""))) : make("p", { class: "none" }, "Without a file: an empty disk.");
+	const said = disk ? make("p", {}, `${work[`${key}_name`] || key}, ${count(disk.length, "byte")} `,
+		button("Take away", () => set(undefined, ""))) : make("p", { class: "none" }, "Without a file: an empty disk.");
 	const panel = make("div", {}, make("label", {}, make("h3", {}, DISK_LABELS[key]), field), said);
 	if (key === "disk1") panel.append(...files_panel(disk, set));
 	return panel;
@@ -35,7 +36,8 @@ function files_panel(disk, set) {
 		if (file) await put_file(disk, file, set);
 	} });
 	if (disk) list_files(list, disk, true);
-	return [list, make("label", {}, make("h3", {}, "Put a file on it"), put), make("h3", {}, "Its files after the last run"), after, button("List them", () => {
+	return [list, make("label", {}, make("h3", {}, "Put a file on it"), put), make("h3", {}, "Its files after the last run"), after,
+		button("List them", () => {
 		if (page.ran?.disks.out1) list_files(after, page.ran.disks.out1, false);
 		else say("There is no run yet", true);
 	})];
@@ -60,8 +62,10 @@ async function command(args, files) {
 async function list_files(list, disk, is_start) {
 	const answer = await command(["ls", "disk"], { disk });
 	if (!answer) return;
-	const files = [...new TextDecoder("latin1").decode(answer.out).matchAll(/^file (\d+) ([0-9a-f]+)$/gm)].map(([, size, name]) => ({ size: Number(size), name: name_of_bytes(bytes_of_hex(name)) }));
-	const rows = files.map(({ name, size }) => make("li", {}, name === null ? "a name that is no text" : button(`Save ${name}`, () => get_file(disk, name)), ` ${count(size, "byte")}`));
+	const files = [...new TextDecoder("latin1").decode(answer.out).matchAll(/^file (\d+) ([0-9a-f]+)$/gm)].map(([, size, name]) =>
+		({ size: Number(size), name: name_of_bytes(bytes_of_hex(name)) }));
+	const rows = files.map(({ name, size }) => make("li", {},
+		name === null ? "a name that is no text" : button(`Save ${name}`, () => get_file(disk, name)), ` ${count(size, "byte")}`));
 	list.replaceChildren(...(rows.length ? rows : [make("li", { class: "none" }, is_start ? "no files" : "no files are left")]));
 }
 async function get_file(disk, name) {

@@ -8,7 +8,8 @@ export function line_rows_of(bytes) {
 	return whole(() => {
 		const sections = sections_of(bytes), lines = sections.find((one) => one.name === ".debug_line"), rows = [];
 		if (!lines) return [];
-		const texts = { line: sections.find((one) => one.name === ".debug_line_str")?.from, all: sections.find((one) => one.name === ".debug_str")?.from };
+		const texts = { line: sections.find((one) => one.name === ".debug_line_str")?.from,
+			all: sections.find((one) => one.name === ".debug_str")?.from };
 		for (let at = lines.from; at < lines.to;) {
 			const reader = new Reader(bytes, at, texts), length = reader.word();
 			add_program(rows, reader, at + 4 + length);

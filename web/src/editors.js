@@ -47,7 +47,8 @@ export class Editor {
 			.map(([kind, line]) => make("div", { class: `bar ${kind}`, style: `top:${ROOM + (line - 1) * LINE}px` }));
 		this.bars.replaceChildren(...tag_nodes(tags), ...bars);
 		const line = marks.fault || marks.next || marks.done, top = (line - 1) * LINE, view = this.area.clientHeight;
-		if (follows && line && (top < this.area.scrollTop || top > this.area.scrollTop + view - 48)) this.area.scrollTop = Math.max(0, top - view / 3);
+		const is_seen = top >= this.area.scrollTop && top <= this.area.scrollTop + view - 2 * LINE - ROOM;
+		if (follows && line && !is_seen) this.area.scrollTop = Math.max(0, top - view / 3);
 		this.scroll();
 	}
 }

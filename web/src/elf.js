@@ -45,7 +45,8 @@ export function sections_of(bytes) {
 	const view = view_of(bytes), table = view.getUint32(32, true), size = view.getUint16(46, true), number = view.getUint16(48, true);
 	const sections = [];
 	for (let k = 0; k < number; k++) {
-		const at = table + size * k, [name, kind, , , from, length, link] = [0, 4, 8, 12, 16, 20, 24].map((field) => view.getUint32(at + field, true));
+		const at = table + size * k,
+			[name, kind, , , from, length, link] = [0, 4, 8, 12, 16, 20, 24].map((field) => view.getUint32(at + field, true));
 		sections.push({ name, kind, from, to: from + length, link });
 	}
 	const names = sections[view.getUint16(50, true)]?.from;
@@ -60,7 +61,8 @@ export function functions_of(bytes) {
 		for (const { from, to, link } of sections.filter((one) => one.kind === SYMBOLS))
 			for (let at = from; at + 16 <= to; at += 16) {
 				if ((view.getUint8(at + 12) & 15) !== FUNCTION) continue;
-				functions.push({ name: text_at(bytes, sections[link].from + view.getUint32(at, true)), at: view.getUint32(at + 4, true), size: view.getUint32(at + 8, true) });
+				functions.push({ name: text_at(bytes, sections[link].from + view.getUint32(at, true)), at: view.getUint32(at + 4, true),
+					size: view.getUint32(at + 8, true) });
 			}
 		return functions.sort((a, b) => a.at - b.at);
 	}, []);

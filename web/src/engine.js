@@ -8,7 +8,8 @@ const engine = { module: null, worker: null, tasks: new Map(), number: 0 };
 export class Stopped extends Error {}
 
 const TOO_OLD = "This browser is too old to run the program: it needs WebAssembly and DecompressionStream, which browsers have had since 2023.";
-const NOT_WIDE = "This browser can't run the program: this page was built without wasm-opt, so it needs WebAssembly with a memory of 64 bits, which Chrome and Edge have had since version 133, and Firefox since version 134.";
+const NOT_WIDE = "This browser can't run the program: this page was built without wasm-opt, so it needs WebAssembly with a memory of 64"
+	+ " bits, which Chrome and Edge have had since version 133, and Firefox since version 134.";
 
 export async function load() {
 	if (typeof WebAssembly !== "object" || typeof DecompressionStream !== "function" || typeof BigInt !== "function") throw new Error(TOO_OLD);

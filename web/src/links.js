@@ -12,7 +12,9 @@ export const from_url = (text) => text.replace(/-/g, "+").replace(/_/g, "/");
 
 // What is written as it is kept: bytes in base64 (web/README.md).
 export function plain_of(work, races) {
-	const plain = { v: 1, about: work.about, programs: work.programs.map(({ name, bytes, text }) => (bytes ? { name, bytes: to_base64(bytes) } : { name, text })), schedule: work.schedule, races };
+	const plain = { v: 1, about: work.about,
+		programs: work.programs.map(({ name, bytes, text }) => (bytes ? { name, bytes: to_base64(bytes) } : { name, text })),
+		schedule: work.schedule, races };
 	for (const disk of DISKS) if (work[disk]) plain[disk] = to_base64(work[disk]);
 	if (work.sources) plain.sources = work.sources;
 	return plain;
@@ -20,7 +22,8 @@ export function plain_of(work, races) {
 // The reverse. It may be a stranger's: what isn't as it should be is refused.
 export function work_of(plain) {
 	const is_text = (one) => typeof one === "string";
-	const is_right = plain?.v === 1 && is_text(plain.schedule) && Array.isArray(plain.programs) && plain.programs.length && plain.programs.every((one) => is_text(one.name) && (is_text(one.text) || is_text(one.bytes)));
+	const is_right = plain?.v === 1 && is_text(plain.schedule) && Array.isArray(plain.programs) && plain.programs.length
+		&& plain.programs.every((one) => is_text(one.name) && (is_text(one.text) || is_text(one.bytes)));
 	if (!is_right) throw new TypeError("this is no run");
 	const work = { about: is_text(plain.about) ? plain.about : "", schedule: plain.schedule, races: plain.races, sources: plain.sources,
 		programs: plain.programs.map(({ name, text, bytes }) => (is_text(bytes) ? { name, bytes: from_base64(bytes) } : { name, text })) };
@@ -38,7 +41,8 @@ const races_given = () => [Number($("preemptions").value), Number($("within").va
 export const link_of = () => fragment_of(plain_of(page.work, races_given()));
 // Whether what is written is an exercise as it was, or the run that is in the page.
 const is_given = (one) => one.schedule === page.work.schedule && one.about === page.work.about && !page.work.disk0 && !page.work.disk1
-	&& one.programs.length === page.work.programs.length && one.programs.every((program, i) => program.text !== undefined && program.text === page.work.programs[i].text);
+	&& one.programs.length === page.work.programs.length
+	&& one.programs.every((program, i) => program.text !== undefined && program.text === page.work.programs[i].text);
 // What was written stays in the address, if it isn't too long: it is there after a reload.
 export async function keep() {
 	const fragment = page.exercises.some(is_given) ? "" : await link_of();

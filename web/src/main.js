@@ -46,22 +46,33 @@ function lay_exercises() {
 	const given = JSON.parse($("given").textContent), option = ({ title }, i) => make("option", { value: String(i) }, title);
 	page.given = given && work_of(given);
 	const groups = [["To begin with", (one) => !one.title.startsWith("Lab")], ["Beside the labs", (one) => one.title.startsWith("Lab")]];
-	const nodes = groups.map(([label, is_of]) => make("optgroup", { label }, ...page.exercises.flatMap((one, i) => (is_of(one) ? [option(one, i)] : []))));
-	$("exercise").append(...(given ? [make("option", { value: "given" }, given.title || "This run")] : []), ...nodes, make("option", { value: "own", hidden: true }, "From a link"));
+	const nodes = groups.map(([label, is_of]) => make("optgroup", { label },
+		...page.exercises.flatMap((one, i) => (is_of(one) ? [option(one, i)] : []))));
+	$("exercise").append(...(given ? [make("option", { value: "given" }, given.title || "This run")] : []), ...nodes,
+		make("option", { value: "own", hidden: true }, "From a link"));
 	$("exercise").addEventListener("change", ({ target }) => {
 		history.replaceState(null, "", location.pathname);
 		take(target.value === "given" ? page.given : page.exercises[target.value]);
 	});
 }
 // What the page is, and what may be believed of it.
+const CLAIMS = [
+	"The transcript, and so each table of a state, is what docs/THEOREM.md of the repository says of the program's output; registers and data"
+		+ " are answers to gdb (docs/DEBUGGING.md). Story, Picture and Races are the output of commands. That Step shows what it was given,"
+		+ " and its words for calls, is tested and not proved.",
+	"Trusted besides what the program trusts: clang's back end for WebAssembly, wasm-ld and wasm-opt; the lines of the module that name the"
+		+ " processor, which were changed; host.c and the page's own script; the browser.",
+	"The page sends nothing: its head forbids the browser to ask for anything from anywhere. What is written stays here, and in links that"
+		+ " you copy.",
+];
 function lay_foot() {
 	const { version, is_proved, sum } = JSON.parse($("built").textContent);
-	const what = is_proved ? "compiled from the module of the proved program" : "compiled from the sources that are proved, but unproved itself; each operation is tested as it runs";
-	$("foot").replaceChildren(make("details", {}, make("summary", {}, `xinu_run ${version}, ${is_proved ? "proved" : "unproved build"}: what is claimed`),
-		make("p", {}, `This is the program xinu_run of Xinu as a verified program, ${what}. Module ${sum}.`),
-		make("p", {}, "The transcript, and so each table of a state, is what docs/THEOREM.md of the repository says of the program's output; registers and data are answers to gdb (docs/DEBUGGING.md). Story, Picture and Races are the output of commands. That Step shows what it was given, and its words for calls, is tested and not proved."),
-		make("p", {}, "Trusted besides what the program trusts: clang's back end for WebAssembly, wasm-ld and wasm-opt; the lines of the module that name the processor, which were changed; host.c and the page's own script; the browser."),
-		make("p", {}, "The page sends nothing: its head forbids the browser to ask for anything from anywhere. What is written stays here, and in links that you copy.")));
+	const what = is_proved ? "compiled from the module of the proved program"
+		: "compiled from the sources that are proved, but unproved itself; each operation is tested as it runs";
+	const claims = [`This is the program xinu_run of Xinu as a verified program, ${what}. Module ${sum}.`, ...CLAIMS];
+	$("foot").replaceChildren(make("details", {},
+		make("summary", {}, `xinu_run ${version}, ${is_proved ? "proved" : "unproved build"}: what is claimed`),
+		...claims.map((claim) => make("p", {}, claim))));
 }
 
 function lay_controls() {
@@ -83,7 +94,9 @@ function lay_controls() {
 		if (!$("fault").hidden) $("fault").scrollIntoView({ block: "nearest" });
 		else if (innerWidth <= NARROW) $("views").scrollIntoView();
 	});
-	const does = { stop: stop_all, share, draw, try: try_all, base: back_to_base, "save-picture": save_picture, "save-transcript": () => page.ran && save("transcript.txt", bytes_of(page.ran.transcript)), theme: change_theme };
+	const save_transcript = () => page.ran && save("transcript.txt", bytes_of(page.ran.transcript));
+	const does = { stop: stop_all, share, draw, try: try_all, base: back_to_base, "save-picture": save_picture,
+		"save-transcript": save_transcript, theme: change_theme };
 	for (const [id, what] of Object.entries(does)) $(id).addEventListener("click", () => what());
 	$("views").addEventListener("click", (event) => {
 		const tab = event.target.closest("[role=tab]");
@@ -96,7 +109,8 @@ function lay_controls() {
 	addEventListener("hashchange", () => location.hash.startsWith("#w=") && begin());
 }
 function change_theme() {
-	const root = document.documentElement, is_dark = root.dataset.theme ? root.dataset.theme === "dark" : matchMedia("(prefers-color-scheme: dark)").matches;
+	const root = document.documentElement, { theme } = root.dataset;
+	const is_dark = theme ? theme === "dark" : matchMedia("(prefers-color-scheme: dark)").matches;
 	root.dataset.theme = is_dark ? "light" : "dark";
 	redraw();
 }
@@ -109,7 +123,8 @@ function take_key(event) {
 		run();
 		return;
 	}
-	const is_own = /^(TEXTAREA|SELECT|SUMMARY)$/.test(target.tagName) || target.tagName === "INPUT" && (target.id !== "slider" || !event.shiftKey) || target.getAttribute?.("role") === "tab";
+	const is_own = /^(TEXTAREA|SELECT|SUMMARY)$/.test(target.tagName) || target.tagName === "INPUT" && (target.id !== "slider" || !event.shiftKey)
+		|| target.getAttribute?.("role") === "tab";
 	const way = (event.shiftKey ? SHIFTED : KEYS)[key];
 	if (!way || is_own || !page.ran?.states || !["step", "beside"].includes(page.view) || event.ctrlKey || event.metaKey || event.altKey) return;
 	event.preventDefault();

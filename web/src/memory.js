@@ -28,7 +28,8 @@ export function register_view() {
 	const number = [chosen, last_running(ran, at), look?.of.keys().next().value].find((one) => look?.of.has(one)), values = look?.of.get(number);
 	if (!values) return make("div", { class: "half" }, make("h3", {}, "Registers"), make("p", { class: "none" }, look ? "no process is left" : ".."));
 	const old = registers_at(at - 1, number);
-	const cells = ORDER.filter((i) => values[i] || ALWAYS.includes(i)).map((i) => make("span", { class: `${values[i] ? "" : "zero"} ${old && old[i] !== values[i] ? "changed" : ""}`,
+	const cells = ORDER.filter((i) => values[i] || ALWAYS.includes(i))
+		.map((i) => make("span", { class: `${values[i] ? "" : "zero"} ${old && old[i] !== values[i] ? "changed" : ""}`,
 		title: `${NAMES[i]} = 0x${hex(values[i], 8)} = ${values[i] | 0}` }, make("b", {}, NAMES[i]), value_words(i, values[i])));
 	const title = `Registers of ${name_of(ran, at, number)}${number === t.current ? "" : ", which doesn't run"}; the others are 0`;
 	return make("div", { class: "half" }, make("h3", {}, title), make("div", { class: "registers" }, ...cells));
@@ -38,14 +39,16 @@ export function register_view() {
 function data_words(text, size) {
 	if (!text || text.startsWith("E")) return "?";
 	const bytes = bytes_of_hex(text), end = bytes.indexOf(0), head = end < 0 ? bytes : bytes.subarray(0, end);
-	if (head.length > 1 && head.every((byte) => byte >= 32 && byte < 127 || byte === 10)) return `“${String.fromCharCode(...head).replace(/\n/g, "\\n")}”`;
+	const is_text = (byte) => byte >= 32 && byte < 127 || byte === 10;
+	if (head.length > 1 && head.every(is_text)) return `“${String.fromCharCode(...head).replace(/\n/g, "\\n")}”`;
 	if (size === 4) return String(new DataView(bytes.buffer).getInt32(0, true));
 	return Array.from(bytes.subarray(0, 12), String).join(" ") + (size > 12 ? " .." : "");
 }
 export function data_view() {
 	const { ran, at } = page, look = ran.looks.get(at), old = ran.looks.get(at - 1), labels = watched(ran);
 	if (!labels.length || !look) return [];
-	const rows = labels.map((label, i) => make("tr", {}, make("td", {}, make("code", {}, label.name)), make("td", { class: "num none" }, `0x${hex(label.at)}`),
+	const rows = labels.map((label, i) => make("tr", {}, make("td", {}, make("code", {}, label.name)),
+		make("td", { class: "num none" }, `0x${hex(label.at)}`),
 		make("td", { class: `num ${old?.memory[i] && old.memory[i] !== look.memory[i] ? "changed" : ""}` }, data_words(look.memory[i], label.size))));
 	return [make("div", { class: "half" }, table("Data of the programs", [], rows))];
 }
@@ -54,19 +57,24 @@ export function data_view() {
 function parts_of_ram(run, n) {
 	const t = state(run, n), parts = run.regions.map((region, i) => ({ from: region.from, to: region.to, kind: "code", name: run.names[i] }));
 	parts.push(...t.free.map((one) => ({ from: one.at, to: one.at + one.size, kind: "free", name: "free" })));
-	for (const one of run.stacks) if (one.since <= n && n < one.until) parts.push({ from: one.from, to: one.to, kind: `stack ${colour_of(one.process)}`, name: `stack of ${name_of(run, n, one.process)}` });
+	for (const { process, from, to } of run.stacks.filter((one) => one.since <= n && n < one.until))
+		parts.push({ from, to, kind: `stack ${colour_of(process)}`, name: `stack of ${name_of(run, n, process)}` });
 	parts.sort((a, b) => a.from - b.from);
 	const all = [], heap = Math.max(...run.regions.map((region) => region.to)) + 7;
 	let end = 0;
 	for (const part of [...parts, { from: RAM, to: RAM }]) {
-		if (part.from > end + 7) all.push({ from: end, to: part.from, ...(part.from <= heap ? { kind: "free", name: "unused" } : { kind: "taken", name: "taken" }) });
+		if (part.from > end + 7) all.push({ from: end, to: part.from,
+			...(part.from <= heap ? { kind: "free", name: "unused" } : { kind: "taken", name: "taken" }) });
 		if (part.from < RAM) all.push(part);
 		end = Math.max(end, part.to);
 	}
 	return all;
 }
 export function map_view() {
-	const cells = parts_of_ram(page.ran, page.at).map(({ from, to, kind, name }) => make("div", { role: "listitem", class: kind, style: `flex:${Math.max(1.6, Math.log2(to - from) - 4).toFixed(2)} 1 0`,
+	const cells = parts_of_ram(page.ran, page.at)
+		.map(({ from, to, kind, name }) => make("div",
+		{ role: "listitem", class: kind, style: `flex:${Math.max(1.6, Math.log2(to - from) - 4).toFixed(2)} 1 0`,
 		title: `${name}: 0x${hex(from)} to 0x${hex(to - 1)}, ${count(to - from, "byte")}` }, name, make("br"), decimal(to - from)));
-	return make("div", {}, make("h3", {}, "Memory, from address 0 to 0xfffff (widths aren't to scale)"), make("div", { class: "map", role: "list" }, ...cells));
+	return make("div", {}, make("h3", {}, "Memory, from address 0 to 0xfffff (widths aren't to scale)"),
+		make("div", { class: "map", role: "list" }, ...cells));
 }

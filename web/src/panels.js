@@ -18,8 +18,10 @@ export function lay_panels() {
 	const { work } = page, tabs = [...work.programs.map((program, i) => program_tab(program, i)), ...source_tabs(), more_tab()];
 	page.tabs = tabs.map((tab) => tab.key);
 	page.editors = new Map(tabs.filter((tab) => tab.editor).map((tab) => [tab.key, tab.editor]));
-	$("files").replaceChildren(...tabs.map((tab, i) => button(tab.name, () => choose_file(i), { role: "tab", id: `file-${i}`, "aria-controls": `panel-${i}` })));
-	$("panels").replaceChildren(...tabs.map((tab, i) => make("div", { role: "tabpanel", id: `panel-${i}`, "aria-labelledby": `file-${i}`, class: tab.editor ? "panel tight" : "panel" }, ...tab.nodes)));
+	$("files").replaceChildren(...tabs.map((tab, i) => button(tab.name, () => choose_file(i),
+		{ role: "tab", id: `file-${i}`, "aria-controls": `panel-${i}` })));
+	$("panels").replaceChildren(...tabs.map((tab, i) => make("div",
+		{ role: "tabpanel", id: `panel-${i}`, "aria-labelledby": `file-${i}`, class: tab.editor ? "panel tight" : "panel" }, ...tab.nodes)));
 	lay_schedule();
 	choose_file(Math.min(page.file, tabs.length - 1));
 }
@@ -51,7 +53,8 @@ function program_tab(program, i) {
 	const image = () => save(`${plain_name(program)}.xim`, page.ran.images[i]);
 	const foot = make("div", { class: "foot" }, page.work.programs.length > 1 ? button("Remove", remove) : null, button("Rename", () => rename(i)),
 		program.bytes || !page.ran ? null : button("Save image", image));
-	const said = program.bytes && make("p", {}, `An ${is_elf(program.bytes) ? "ELF" : "image"} file of ${count(program.bytes.length, "byte")}, built elsewhere.`);
+	const said = program.bytes
+		&& make("p", {}, `An ${is_elf(program.bytes) ? "ELF" : "image"} file of ${count(program.bytes.length, "byte")}, built elsewhere.`);
 	return { key: `program ${i}`, name, editor, nodes: editor ? [editor.node, foot] : [said, source_field(program), foot] };
 }
 function source_tabs() {
@@ -61,7 +64,8 @@ function source_tabs() {
 	});
 }
 function rename(i) {
-	const program = page.work.programs[i], field = make("input", { type: "text", value: program.name, "aria-label": "Name of the program", size: 12 });
+	const program = page.work.programs[i],
+		field = make("input", { type: "text", value: program.name, "aria-label": "Name of the program", size: 12 });
 	const done = () => {
 		if (field.value.trim()) program.name = field.value.trim();
 		lay_panels();
@@ -85,7 +89,8 @@ function more_tab() {
 		page.work.about = event.target.value;
 		show_about();
 	} });
-	const node = make("div", { class: "files" }, program_adder(), disk_panel("disk0"), disk_panel("disk1"), make("div", {}, make("h3", {}, "Written by the last run"), make("ul", { id: "made" })),
+	const node = make("div", { class: "files" }, program_adder(), disk_panel("disk0"), disk_panel("disk1"),
+		make("div", {}, make("h3", {}, "Written by the last run"), make("ul", { id: "made" })),
 		make("label", {}, make("h3", {}, "Text above the programs, which the link holds too"), about));
 	return { key: "more", name: "More", editor: null, nodes: [node] };
 }
@@ -104,14 +109,18 @@ function program_adder() {
 		const file = await bytes_of_file(event);
 		if (file) add(/\.(s|asm|txt)$/i.test(file.name) ? { name: file.name, text: utf8(file.bytes) } : file);
 	} });
-	const own = () => add({ name: `program${page.work.programs.length + 1}.s`, text: `# a program\n        .place ${free_place()}\n        sys  getpid\n        sys  exit\n` });
-	return make("div", {}, button("Add a program in assembler", own), make("label", {}, make("h3", {}, "Add a program built elsewhere: an ELF file, an image, or a text in assembler"), field));
+	const own = () => add({ name: `program${page.work.programs.length + 1}.s`,
+		text: `# a program\n        .place ${free_place()}\n        sys  getpid\n        sys  exit\n` });
+	return make("div", {}, button("Add a program in assembler", own),
+		make("label", {}, make("h3", {}, "Add a program built elsewhere: an ELF file, an image, or a text in assembler"), field));
 }
 // The next multiple of 4096 above all programs.
 const free_place = () => (page.ran?.regions || []).reduce((most, region) => Math.max(most, region.to), 0) + 4095 & ~4095;
 
-const ADDED = [["+1 step", "step 1", "an instruction"], ["+10", "step 10", "ten instructions"], ["+tick", "tick 1", "the clock"], ["+quantum", "tick 2", "two ticks: the quantum ends"],
-	["+send", "tx 64", "the console sends up to 64 bytes"], ["+disk", "disk0 1", "the raw disk has done a request"], ["+disk fails", "fail0", "the raw disk fails a request"]];
+const ADDED = [["+1 step", "step 1", "an instruction"], ["+10", "step 10", "ten instructions"], ["+tick", "tick 1", "the clock"],
+	["+quantum", "tick 2", "two ticks: the quantum ends"],
+	["+send", "tx 64", "the console sends up to 64 bytes"], ["+disk", "disk0 1", "the raw disk has done a request"],
+	["+disk fails", "fail0", "the raw disk fails a request"]];
 function lay_schedule() {
 	const editor = new Editor("Schedule", page.work.schedule, (text) => {
 		page.work.schedule = text;
@@ -124,7 +133,8 @@ function lay_schedule() {
 		set_schedule(cut_text(page.work.schedule, page.ran.runs, page.at));
 		run("end");
 	};
-	$("schedule").replaceChildren(make("h2", {}, "Schedule"), editor.node, make("div", { class: "foot", role: "group", "aria-label": "Add to the schedule and run" }, ...adders,
+	$("schedule").replaceChildren(make("h2", {}, "Schedule"), editor.node,
+		make("div", { class: "foot", role: "group", "aria-label": "Add to the schedule and run" }, ...adders,
 		button("Cut here", cut, { id: "cut", title: "Leaves out all events after the one that is shown" })));
 }
 export function set_schedule(text) {
@@ -163,7 +173,8 @@ export function show_fault(why) {
 }
 // The files that the last run made.
 export function lay_made() {
-	const { ran, work } = page, link = (name, bytes) => make("li", {}, button(`Save ${name}`, () => save(name, bytes)), ` ${count(bytes.length, "byte")}`);
+	const { ran, work } = page,
+		link = (name, bytes) => make("li", {}, button(`Save ${name}`, () => save(name, bytes)), ` ${count(bytes.length, "byte")}`);
 	const disks = [["out0", "disk0.img"], ["out1", "disk1.img"]].filter(([key]) => ran.disks[key]).map(([key, name]) => link(name, ran.disks[key]));
 	const images = ran.images.flatMap((image, i) => (work.programs[i].bytes ? [] : [link(`${ran.names[i]}.xim`, image)]));
 	$("made").replaceChildren(link("transcript.txt", bytes_of(ran.transcript)), ...disks, ...images);

@@ -29,7 +29,8 @@ export async function draw() {
 }
 function cleaned(text) {
 	const svg = document.importNode(new DOMParser().parseFromString(text, "image/svg+xml").documentElement, true);
-	for (const node of svg.querySelectorAll("*")) if (ACTS.test(node.localName) || [...node.attributes].some((one) => /^on|href$/i.test(one.name))) node.remove();
+	const acts = (node) => ACTS.test(node.localName) || [...node.attributes].some((one) => /^on|href$/i.test(one.name));
+	for (const node of svg.querySelectorAll("*")) if (acts(node)) node.remove();
 	svg.style.minWidth = WIDTH;
 	svg.setAttribute("role", "img");
 	svg.setAttribute("aria-label", "Who ran when; the page Story tells it in words");
@@ -52,7 +53,9 @@ export const save_picture = () => page.picture && save("run.svg", page.picture);
 function columns(svg) {
 	return [...svg.querySelectorAll("g.a")].flatMap((labels) => {
 		const strip = labels.parentNode, top = Number(/translate\(0 (\d+)\)/.exec(strip.getAttribute("transform"))?.[1] || 0);
-		return [...labels.querySelectorAll("text")].map((label) => ({ event: label.textContent === "start" ? 0 : parseInt(label.textContent, 10), x: Number(label.getAttribute("x")) - 3, strip, top }))
+		const event_of = (label) => (label.textContent === "start" ? 0 : parseInt(label.textContent, 10));
+		return [...labels.querySelectorAll("text")]
+			.map((label) => ({ event: event_of(label), x: Number(label.getAttribute("x")) - 3, strip, top }))
 			.filter((column) => Number.isFinite(column.event));
 	});
 }
@@ -64,7 +67,8 @@ export function mark_picture() {
 	const column = columns(svg).findLast((one) => one.event <= page.at);
 	if (!column) return;
 	const line = document.createElementNS("http://www.w3.org/2000/svg", "rect"), box = column.strip.getBBox();
-	for (const [key, value] of Object.entries({ class: "here", x: column.x - 1.5, y: box.y, width: 3, height: box.height, fill: "#d97706", opacity: ".75" })) line.setAttribute(key, value);
+	const how = { class: "here", x: column.x - 1.5, y: box.y, width: 3, height: box.height, fill: "#d97706", opacity: ".75" };
+	for (const [key, value] of Object.entries(how)) line.setAttribute(key, value);
 	column.strip.append(line);
 	line.scrollIntoView({ block: "nearest" });
 }

@@ -12,7 +12,8 @@ export function place_of(run, pc, is_in_call = false) {
 	if (pc === undefined) return null;
 	for (const [i, source] of run.sources.entries()) {
 		const found = source.layout && of_layout(source.layout, pc);
-		if (found) return { key: `program ${i}`, program: i, line: found.line, text: instruction_of(source.lines[found.line - 1]), at: found.at, size: found.size };
+		if (found) return { key: `program ${i}`, program: i, line: found.line, text: instruction_of(source.lines[found.line - 1]), at: found.at,
+			size: found.size };
 		const row = source.rows && row_at(run, source.rows, is_in_call ? pc - 4 : pc);
 		if (row) return place_in_c(run, i, row);
 	}
@@ -29,7 +30,8 @@ function row_at(run, rows, pc) {
 }
 function place_in_c(run, program, row) {
 	const text = run.texts[row.file]?.split("\n")[row.line - 1]?.trim();
-	return { key: `source ${row.file}`, program, file: row.file, line: row.line, text: `${row.file}:${row.line}${text ? ` ${text}` : ""}`, at: row.at, size: 0 };
+	return { key: `source ${row.file}`, program, file: row.file, line: row.line, text: `${row.file}:${row.line}${text ? ` ${text}` : ""}`,
+		at: row.at, size: 0 };
 }
 function function_of(run, pc) {
 	const found = run.functions[last_at_most(run.functions, pc, (one) => one.at)];

@@ -22,32 +22,45 @@ export function process_table(choose) {
 function process_row(process, choose) {
 	const { ran, at } = page, { number } = process, old = before(ran, at).procs.find((one) => one.number === number);
 	const cell = (value, kind, key) => make("td", { class: `${kind} ${!old || key && old[key] !== process[key] ? "changed" : ""}` }, value);
-	const label = number === 0 ? bare_name(0) : button(bare_name(number), () => choose(number), { class: "plain", title: "Show its registers", "aria-pressed": page.chosen === number });
+	const label = number === 0
+		? bare_name(0) : button(bare_name(number), () => choose(number),
+		{ class: "plain", title: "Show its registers", "aria-pressed": page.chosen === number });
 	const where = number === 0 ? "" : place_words(ran, registers_at(at, number)?.[PC], is_in_call(number)), is_same = old?.state === process.state;
-	return make("tr", { class: process.state }, cell(make("span", {}, make("span", { class: `swatch ${colour_of(number)}` }), String(number)), "num"), cell(label, "name"),
-		make("td", { class: is_same ? "" : "changed" }, make("span", { class: `state ${process.state}` }, waits_for(ran, at, process))), make("td", { class: "num where", title: where }, where),
-		cell(String(process.priority), "num", "priority"), cell(number === 0 ? "" : String(process.parent), "num"), cell(process.message === null ? "" : String(process.message), "num", "message"));
+	return make("tr", { class: process.state },
+		cell(make("span", {}, make("span", { class: `swatch ${colour_of(number)}` }), String(number)), "num"), cell(label, "name"),
+		make("td", { class: is_same ? "" : "changed" }, make("span", { class: `state ${process.state}` }, waits_for(ran, at, process))),
+		make("td", { class: "num where", title: where }, where),
+		cell(String(process.priority), "num", "priority"), cell(number === 0 ? "" : String(process.parent), "num"),
+		cell(process.message === null ? "" : String(process.message), "num", "message"));
 }
 
-const queue = (title, is_same, ...kids) => make("div", { class: `queue ${is_same ? "" : "changed"}` }, make("h3", {}, title), ...kids.filter(Boolean));
+const queue = (title, is_same, ...kids) => make("div", { class: `queue ${is_same ? "" : "changed"}` }, make("h3", {}, title),
+	...kids.filter(Boolean));
 const none = (text) => make("span", { class: "none" }, text);
-const chip = (number, kind, more = "") => make("span", { class: `chip ${kind}` }, (number === 0 ? "null process" : name_of(page.ran, page.at, number)) + more);
+const chip = (number, kind, more = "") => make("span", { class: `chip ${kind}` },
+	(number === 0 ? "null process" : name_of(page.ran, page.at, number)) + more);
 const or_none = (nodes, text) => (nodes.length ? nodes : [none(text)]);
 
 // The lists in which processes are, and what semaphores, ports, pools and disks have.
 export function queue_view() {
 	const { ran, at } = page, t = state(ran, at), old = before(ran, at);
 	const is_same = (part) => JSON.stringify(part(t)) === JSON.stringify(part(old));
-	const ready = queue("Ready list, first to last", is_same((x) => x.ready), ...or_none(t.ready.map((one) => chip(one.process, "ready", ` (${one.key})`)), "nobody"));
-	const sleepers = t.sleepers.length ? [queue("Sleepers, by waking tick", is_same((x) => x.sleepers), ...t.sleepers.map((one) => chip(one.process, "sleep", ` → ${one.wake}`)))] : [];
+	const ready = queue("Ready list, first to last", is_same((x) => x.ready),
+		...or_none(t.ready.map((one) => chip(one.process, "ready", ` (${one.key})`)), "nobody"));
+	const sleepers = t.sleepers.length
+		? [queue("Sleepers, by waking tick", is_same((x) => x.sleepers),
+		...t.sleepers.map((one) => chip(one.process, "sleep", ` → ${one.wake}`)))] : [];
 	const of_number = (list, number) => is_same((x) => x[list].find((one) => one.number === number));
 	return make("div", { class: "queues" }, ready, ...t.sems.map((sem) => semaphore(sem, of_number("sems", sem.number))), ...sleepers,
-		...t.ports.map((port) => port_queue(port, of_number("ports", port.number))), ...t.pools.map((pool) => queue(`Pool ${pool.number}: buffers of ${pool.size} bytes`, of_number("pools", pool.number), `${pool.free} free, ${pool.held} taken`)),
+		...t.ports.map((port) => port_queue(port, of_number("ports", port.number))),
+		...t.pools.map((pool) => queue(`Pool ${pool.number}: buffers of ${pool.size} bytes`, of_number("pools", pool.number),
+		`${pool.free} free, ${pool.held} taken`)),
 		...devices(t, old));
 }
 function semaphore(sem, is_same) {
 	const taken = page.ran.takes.findLast((one) => one.sem === sem.number && one.event <= page.at);
-	return queue(`Semaphore ${sem.number}: count ${sem.count}`, is_same, ...or_none(sem.waiters.map((process) => chip(process, "wait")), "nobody waits"),
+	return queue(`Semaphore ${sem.number}: count ${sem.count}`, is_same,
+		...or_none(sem.waiters.map((process) => chip(process, "wait")), "nobody waits"),
 		taken && make("div", { class: "none" }, `last taken by ${name_of(page.ran, page.at, taken.process)}`));
 }
 function port_queue(port, is_same) {
@@ -62,7 +75,8 @@ function devices(t, old) {
 	if (t.disk1 !== "clean" || t.files.length) list.push(queue("Disk with files", t.disk1 === old.disk1, t.disk1));
 	for (const file of t.files) {
 		const earlier = old.files.find((one) => one.device === file.device);
-		list.push(queue(`Device ${file.device}`, JSON.stringify(file) === JSON.stringify(earlier), `a file of ${count(file.size, "byte")}, at ${file.position}`));
+		list.push(queue(`Device ${file.device}`, JSON.stringify(file) === JSON.stringify(earlier),
+			`a file of ${count(file.size, "byte")}, at ${file.position}`));
 	}
 	return list;
 }
@@ -73,5 +87,6 @@ export function excerpt() {
 	const text = place && (place.file ? ran.texts[place.file] : ran.sources[place.program].lines?.join("\n"));
 	if (!text) return make("div", { class: "excerpt" });
 	const from = Math.max(0, place.line - 3), lines = text.split("\n").slice(from, place.line + 2);
-	return make("div", { class: "excerpt", "aria-hidden": "true" }, ...lines.map((line, i) => make("div", { class: from + i + 1 === place.line ? "next" : "" }, `${String(from + i + 1).padStart(3)} ${line}`)));
+	return make("div", { class: "excerpt", "aria-hidden": "true" },
+		...lines.map((line, i) => make("div", { class: from + i + 1 === place.line ? "next" : "" }, `${String(from + i + 1).padStart(3)} ${line}`)));
 }

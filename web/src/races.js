@@ -34,7 +34,8 @@ export function outcome_words(lines, run_shown) {
 		const name = name_in(run_shown, { number: Number(w[1]), name: w[6] && w[6] !== "-" ? text_of_hex(w[6]) : "" });
 		return [`${name} ${w[2] === "wait" && waits.has(w[1]) ? `waits for semaphore ${waits.get(w[1])}` : STATES[w[2]] || w[2]}`];
 	});
-	const ends = end.replace("end done", "no process is left").replace("end schedule", "the schedule ends").replace("stuck", "nobody can go on").replace("end panic", "the kernel panics");
+	const ends = end.replace("end done", "no process is left").replace("end schedule", "the schedule ends").replace("stuck", "nobody can go on")
+		.replace("end panic", "the kernel panics");
 	return { sent: sent === '""' ? "" : sent, end: ends, left };
 }
 
@@ -44,7 +45,8 @@ export async function try_all() {
 	say("Trying ..");
 	const told = await guarded(async () => {
 		const { args, files } = inputs(page.work, await images_of(page.work), base);
-		const answer = await xinu(["races", "--preemptions", $("preemptions").value, "--within", $("within").value, "--found", "found", ...args], { files });
+		const answer = await xinu(["races", "--preemptions", $("preemptions").value, "--within", $("within").value, "--found", "found", ...args],
+			{ files });
 		if (answer.status !== 0) throw new Refused(answer.trap ? stopped_words(answer) : answer.err.trim());
 		return answer;
 	});
@@ -60,12 +62,14 @@ function show_outcomes(text, base, found) {
 	const { rows, sum } = outcomes_of(text), runs = events_of(base).runs;
 	const take = (row) => take_row(base, row.number === 2 && found ? found : row.places.length ? with_preemptions(runs, row.places) : base, row);
 	const heads = ["", "what came out", "schedules", "first with a preemption after", ""];
-	const said = rows.length === 1 ? "One outcome: on each of these schedules the run comes to the same." : `${count(rows.length, "outcome")}: the program depends on when it is preempted.`;
+	const said = rows.length === 1 ? "One outcome: on each of these schedules the run comes to the same."
+		: `${count(rows.length, "outcome")}: the program depends on when it is preempted.`;
 	$("outcomes").replaceChildren(table(sum, heads, rows.map((row) => outcome_row(row, () => take(row)))), make("p", { class: "after" }, said));
 }
 function outcome_row(row, take) {
 	const { sent, end, left } = outcome_words(row.lines, { names: page.work.programs.map((program) => program.name.replace(/^\d+_|\.\w+$/g, "")) });
-	const what = make("td", { title: row.lines.join("\n") }, make("div", {}, make("code", {}, sent), `${sent ? ": " : ""}${end}`), ...left.map((line) => make("div", { class: "none" }, line)));
+	const what = make("td", { title: row.lines.join("\n") }, make("div", {}, make("code", {}, sent), `${sent ? ": " : ""}${end}`),
+		...left.map((line) => make("div", { class: "none" }, line)));
 	return make("tr", {}, make("td", { class: "num" }, String(row.number)), what, make("td", { class: "num" }, decimal(row.runs)),
 		make("td", { class: "num" }, row.places.length ? `step ${row.places.join(", ")}` : "no step"), make("td", {}, button("Step through", take)));
 }

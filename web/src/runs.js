@@ -56,7 +56,8 @@ async function refusal(work, answer, { files, args }) {
 	const told = (await xinu(["explain", ...args], { files })).err || answer.err, said = told.trim();
 	const line = /schedule line (\d+)/.exec(said)?.[1], number = /image (\d+)/.exec(said)?.[1];
 	const quoted = line && work.schedule.split("\n")[line - 1]?.trim();
-	if (line) return new Refused(`Schedule, line ${line}${quoted ? `, “${quoted}”` : ""}: there is no such line. ${SCHEDULE_LINES}`, "schedule", Number(line));
+	if (line) return new Refused(`Schedule, line ${line}${quoted ? `, “${quoted}”` : ""}: there is no such line. ${SCHEDULE_LINES}`, "schedule",
+		Number(line));
 	const key = number ? `program ${number - 1}` : null, words = said.split("\n").slice(1).join("\n") || said;
 	if (!/overlaps/.test(said)) return new Refused(words, key);
 	const name = program_name(work.programs[number - 1]), place = 4096 * (number - 1);
@@ -73,7 +74,8 @@ export async function run_of(work) {
 	return {
 		schedule: work.schedule, images, files, args, regions, transcript, story, disks: answer.files,
 		names: work.programs.map(plain_name), texts: work.sources || {},
-		sources: work.programs.map((program, i) => source_of(program, regions[i])), functions: images.flatMap(functions_of).sort((a, b) => a.at - b.at),
+		sources: work.programs.map((program, i) => source_of(program, regions[i])),
+		functions: images.flatMap(functions_of).sort((a, b) => a.at - b.at),
 		count: Number(/after (\d+) event/.exec(story)?.[1] ?? events.total), end: /^end (\w+)$/m.exec(transcript.slice(-20))?.[1] || "",
 		runs: events.runs, looks: new Map(), ms: performance.now() - start, is_stale: false,
 	};
@@ -84,14 +86,16 @@ function source_of(program, region) {
 	return layout.end === region.to ? { layout, lines: program.text.split("\n") } : {};
 }
 
-// The states of the stretch after the event `first`, up to LIMIT events, and what is read in them. A run of two million events is had a stretch at a time.
+// The states of the stretch after the event `first`, up to LIMIT events, and what is read in them. A run of two million events is had a
+// stretch at a time.
 export async function load_stretch(run, first, told) {
 	const to = Math.min(first + LIMIT, run.count), events = events_of(run.schedule, first + LIMIT);
 	const states = await xinu(["run", ...run.args], { files: { ...run.files, "schedule.txt": dumped(events.runs, first, to) }, states: true }, told);
 	if (states.status !== 0) throw new Refused(states.trap ? stopped_words(states) : states.err);
 	const earlier = first ? states.lines[0] || [] : [];
 	if (first) delete states.lines[0];
-	Object.assign(run, { runs: events.runs, first, last: first + states.at.length - 1, states, earlier, parsed: new Map(), currents: [], steps: new Map(), steps_from: 0, steps_to: 0 });
+	Object.assign(run, { runs: events.runs, first, last: first + states.at.length - 1, states, earlier, parsed: new Map(), currents: [],
+		steps: new Map(), steps_from: 0, steps_to: 0 });
 	Object.assign(run, { stops: stops_of(run), folds: folds_of(run), stacks: stacks_of(run), output: output_of(run) }, calls_of(run));
 }
 // The first event before the stretch that an event is in.

@@ -11,7 +11,8 @@ export const files_of = (bytes) => [...new Set(line_rows_of(bytes).map((row) => 
 // Says what is known of its lines, and takes the texts.
 export function source_field(program) {
 	const files = files_of(program.bytes);
-	if (!files.length) return make("p", { class: "none" }, "It has no lines of a source: places are functions and distances. Compile it with -g, and give it here once more, to step by lines of C.");
+	if (!files.length) return make("p", { class: "none" },
+		"It has no lines of a source: places are functions and distances. Compile it with -g, and give it here once more, to step by lines of C.");
 	const field = make("input", { type: "file", multiple: true, onchange: async (event) => {
 		for (const file of event.target.files) add_source(file.name, utf8(new Uint8Array(await file.arrayBuffer())));
 		lay_panels();

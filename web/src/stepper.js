@@ -134,7 +134,8 @@ export function mark_lines(follows = false) {
 	if (follows && next && page.file < page.tabs.length - 1 && editors.has(next.key) && choose_key(next.key)) return;
 	for (const [key, editor] of editors) {
 		if (key === "schedule") continue;
-		editor.mark({ done: last?.key === key ? last.line : 0, next: next?.key === key ? next.line : 0 }, true, tags.filter((tag) => tag.key === key));
+		editor.mark({ done: last?.key === key ? last.line : 0, next: next?.key === key ? next.line : 0 }, true,
+			tags.filter((tag) => tag.key === key));
 	}
 	const coming = run_at(ran.runs, at + 1), past = run_at(ran.runs, at);
 	editors.get("schedule")?.mark({ next: coming?.line || 0, done: coming?.line === past?.line ? 0 : past?.line || 0 }, true);
@@ -142,7 +143,8 @@ export function mark_lines(follows = false) {
 function tags_of(t) {
 	return t.procs.filter((one) => one.number && one.number !== t.current).flatMap((process) => {
 		const place = place_at(process.number);
-		return place ? [{ key: place.key, line: place.line, text: String(process.number), state: process.state, title: name_of(page.ran, page.at, process.number) }] : [];
+		return place ? [{ key: place.key, line: place.line, text: String(process.number), state: process.state,
+			title: name_of(page.ran, page.at, process.number) }] : [];
 	});
 }
 
@@ -170,7 +172,9 @@ async function look(n) {
 	look(page.at);
 }
 async function fetch_looks(ran, events) {
-	const labels = watched(ran), looks = events.map((event) => ({ event, processes: state(ran, event).procs.map((one) => one.number).filter((number) => number > 0).slice(0, LIVING) }));
+	const labels = watched(ran),
+		looks = events.map((event) =>
+		({ event, processes: state(ran, event).procs.map((one) => one.number).filter((number) => number > 0).slice(0, LIVING) }));
 	if (!looks.length) return;
 	const answer = await xinu(["gdb", ...ran.args], { files: ran.files, stdin: bytes_of(questions(looks, labels)) });
 	for (const [event, found] of answers(utf8(answer.out), looks, labels)) ran.looks.set(event, found);

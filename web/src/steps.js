@@ -10,7 +10,8 @@ export function steps_of(listed) {
 		const found = STEP.exec(line);
 		if (!found) continue;
 		const [, event, process, , pc, place, whole] = found, [, text, effect] = /^(.*?)(?: \((.*)\))?$/.exec(whole);
-		steps.set(Number(event), { process: Number(process), pc: parseInt(pc, 16), place, text, effect: effect && effect.includes(" = ") ? effect : null });
+		steps.set(Number(event),
+			{ process: Number(process), pc: parseInt(pc, 16), place, text, effect: effect && effect.includes(" = ") ? effect : null });
 	}
 	return steps;
 }

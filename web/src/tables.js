@@ -7,7 +7,8 @@ const name_of_hex = (word) => (is_none(word) ? "" : text_of_hex(word));
 // What each kind of line adds to the tables t; n are the words after the first as numbers.
 const READ = {
 	now: (t, w, n) => ([t.now, t.quantum] = n),
-	proc: (t, w, n) => t.procs.push({ number: n[0], state: w[2], priority: n[2], parent: n[3], message: is_none(w[5]) ? null : n[4], name: name_of_hex(w[6]) }),
+	proc: (t, w, n) => t.procs.push({ number: n[0], state: w[2], priority: n[2], parent: n[3], message: is_none(w[5]) ? null : n[4],
+	name: name_of_hex(w[6]) }),
 	ready: (t, w, n) => t.ready.push({ process: n[0], key: n[1] }),
 	sem: (t, w, n) => t.sems.push({ number: n[0], count: n[1], waiters: [] }),
 	wait: (t, w, n) => t.sems.find((sem) => sem.number === n[0])?.waiters.push(n[1]),

@@ -39,7 +39,8 @@ function kind_words(run, n, of, t, old) {
 function step_words(run, n, old) {
 	const name = name_of(run, n, old.current), lines = lines_at(run, n), step = run.steps.get(n);
 	// a process that waited has its answer in a step of its own, which carries out nothing
-	if (lines.some((line) => line.startsWith(`ret ${old.current} `)) && !lines.some((line) => line.startsWith("call "))) return `${name} goes on in its call`;
+	if (lines.some((line) => line.startsWith(`ret ${old.current} `))
+		&& !lines.some((line) => line.startsWith("call "))) return `${name} goes on in its call`;
 	return `${name} ${old.current === 0 ? "idles" : `executes ${step ? instruction_words(run, step) : "an instruction"}`}`;
 }
 
@@ -72,7 +73,10 @@ function other_words(w, name) {
 	case "run": return `now ${name()} runs`;
 	case "con": return `the console sends ${letter(parseInt(w[1], 16))}`;
 	case "trap": return `${name()} is ended by a trap: ${TRAPS[w[2]] || w[2]}`;
-	case "file": return `the call on files of ${w[1] === "0" ? "a process that is gone" : name()} ${w[2] === "turn" ? "has had a turn of the disk" : "takes effect"}`;
+	case "file": {
+		const whose = w[1] === "0" ? "a process that is gone" : name();
+		return `the call on files of ${whose} ${w[2] === "turn" ? "has had a turn of the disk" : "takes effect"}`;
+	}
 	default: return null;
 	}
 }

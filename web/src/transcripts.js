@@ -33,10 +33,12 @@ export const tell_story = () => $("story").replaceChildren(...with_links(page.ra
 // The transcript; each event's lines are a link if all states are known and there aren't too many.
 export function tell_transcript() {
 	const { ran } = page, text = ran.transcript, lines = lines_of(text), is_long = lines.length > MOST;
-	const keys = ran.first === 0 && ran.last === ran.count && !is_long ? Object.keys(ran.states.lines) : [], of_events = keys.map((key) => ran.states.lines[key].join("\n") + "\n");
+	const keys = ran.first === 0 && ran.last === ran.count && !is_long ? Object.keys(ran.states.lines) : [],
+		of_events = keys.map((key) => ran.states.lines[key].join("\n") + "\n");
 	const told = of_events.join("");
 	// a schedule's own `dump` prints tables between
-	if (keys.length && text.startsWith(told)) $("transcript").replaceChildren(...keys.map((key, i) => link(key, of_events[i])), text.slice(told.length));
+	if (keys.length && text.startsWith(told)) $("transcript").replaceChildren(...keys.map((key, i) => link(key, of_events[i])),
+		text.slice(told.length));
 	else $("transcript").textContent = is_long ? [...lines.slice(0, MOST - LAST), "..", ...lines.slice(-LAST)].join("\n") : text;
 	const said = is_long ? `; the first ${MOST - LAST} and the last ${LAST} are shown` : keys.length ? "; a click on one goes to its event" : "";
 	$("long").textContent = count(lines.length, "line") + said;

@@ -20,11 +20,8 @@ const as_bytes = (data) => (typeof data === "string" ? new TextEncoder().encode(
 // are BigInt. A view of the memory is void once it has grown, so each call makes its own.
 function host_of(run) {
 	const bytes = (p, n) => new Uint8Array(run.memory.buffer, Number(p), Number(n));
-	const text = (p) => {
-		const all = new Uint8Array(run.memory.buffer, Number(p));
-		return new TextDecoder().decode(all.subarray(0, all.indexOf(0)));
-	};
 	return {
+		...files_of_host(run),
 		write(fd, p, n) {
 			const file = fd === 1 || fd === 2 ? run.out[fd] : run.open.get(fd);
 			if (!file) return BigInt(-EBADF);
@@ -40,6 +37,22 @@ function host_of(run) {
 			file.at += part.length;
 			return BigInt(part.length);
 		},
+		arg(k, p, room) {
+			const word = run.argv[Number(k)];
+			if (!word) return -1n;
+			if (word.length > Number(room)) return -2n;
+			bytes(p, word.length).set(word);
+			return BigInt(word.length);
+		},
+		now: () => Date.now(),
+	};
+}
+function files_of_host(run) {
+	const text = (p) => {
+		const all = new Uint8Array(run.memory.buffer, Number(p));
+		return new TextDecoder().decode(all.subarray(0, all.indexOf(0)));
+	};
+	return {
 		open(p, flags) {
 			const name = text(p);
 			if (!run.disk.has(name) && !(flags & O_CREAT)) return -ENOENT;
@@ -57,14 +70,6 @@ function host_of(run) {
 			run.open.delete(fd);
 			return 0;
 		},
-		arg(k, p, room) {
-			const word = run.argv[Number(k)];
-			if (!word) return -1n;
-			if (word.length > Number(room)) return -2n;
-			bytes(p, word.length).set(word);
-			return BigInt(word.length);
-		},
-		now: () => Date.now(),
 	};
 }
 
@@ -85,7 +90,8 @@ export function run_command({ module, name = "xinu_run", args, files = {}, stdin
 	}
 	const made = {};
 	for (const file of run.touched) made[file] = run.disk.get(file);
-	return { status, trap, out: join(run.out[1].pieces), err: new TextDecoder().decode(join(run.out[2].pieces)), files: made, ms: performance.now() - start };
+	return { status, trap, out: join(run.out[1].pieces), err: new TextDecoder().decode(join(run.out[2].pieces)), files: made,
+		ms: performance.now() - start };
 }
 
 // Runs a command whose output is the transcript of states: the answer has what StateReader made of it.

@@ -9,7 +9,8 @@ const CONTROLS = ["button", "textbox", "combobox", "slider", "tab", "spinbutton"
 async function keys(b, check) {
 	await open_exercise(b, 2);
 	await b.ev("document.activeElement.blur()");
-	const steps = [["ArrowRight", 0, 1], ["ArrowRight", 0, 2], ["ArrowLeft", 0, 1], ["End", 0, await b.ev("xinu_page.page.ran.count")], ["Home", 0, 0], ["ArrowRight", SHIFT, await b.ev("xinu_page.page.ran.stops[1]")]];
+	const steps = [["ArrowRight", 0, 1], ["ArrowRight", 0, 2], ["ArrowLeft", 0, 1], ["End", 0, await b.ev("xinu_page.page.ran.count")],
+		["Home", 0, 0], ["ArrowRight", SHIFT, await b.ev("xinu_page.page.ran.stops[1]")]];
 	for (const [name, modifiers, wanted] of steps) {
 		await b.key(name, modifiers);
 		check(await b.ev(AT) === wanted, `key ${name} leads to ${wanted}`, () => b.ev(AT));
@@ -30,7 +31,8 @@ async function keys(b, check) {
 }
 async function names(b, check) {
 	const { nodes } = await b.send("Accessibility.getFullAXTree");
-	const controls = nodes.filter((node) => !node.ignored && CONTROLS.includes(node.role?.value)), nameless = controls.filter((node) => !node.name?.value);
+	const controls = nodes.filter((node) => !node.ignored && CONTROLS.includes(node.role?.value)),
+		nameless = controls.filter((node) => !node.name?.value);
 	check(controls.length > 20 && nameless.length === 0, `${controls.length} controls have names`, () => JSON.stringify(nameless.slice(0, 5)));
 }
 // The texts whose contrast is under 4.5, of those that are seen; in the page.
@@ -52,7 +54,8 @@ function too_pale() {
 	for (let text = walker.nextNode(); text; text = walker.nextNode()) {
 		const node = text.parentElement, box = node.getBoundingClientRect();
 		if (!text.data.trim() || !box.width || node.closest("[hidden], script, style, :disabled, .stale")) continue;
-		const [a, b] = [light(numbers(getComputedStyle(node).color)), light(ground(node))], contrast = (Math.max(a, b) + 0.05) / (Math.min(a, b) + 0.05);
+		const [a, b] = [light(numbers(getComputedStyle(node).color)), light(ground(node))],
+			contrast = (Math.max(a, b) + 0.05) / (Math.min(a, b) + 0.05);
 		if (contrast < 4.5) pale.push(`${contrast.toFixed(2)} ${node.className || node.tagName} ${text.data.slice(0, 30)}`);
 	}
 	return pale;
@@ -74,7 +77,8 @@ async function looks(b, check) {
 		for (const view of VIEWS) {
 			await b.ev(`document.getElementById('tab-${view}').click()`);
 			await sleep(50);
-			check(await b.ev("document.scrollingElement.scrollWidth") <= width, `${view} isn't wider than ${width}`, () => b.ev("document.scrollingElement.scrollWidth"));
+			check(await b.ev("document.scrollingElement.scrollWidth") <= width, `${view} isn't wider than ${width}`,
+				() => b.ev("document.scrollingElement.scrollWidth"));
 		}
 	}
 	await b.size(1280, 900);

@@ -16,7 +16,8 @@ const open = async (b, name) => open_exercise(b, await named(b, name));
 export async function upload(b, beside, name, data) {
 	const folder = fs.mkdtempSync(path.join(os.tmpdir(), "xinu-upload-")), file = path.join(folder, name);
 	fs.writeFileSync(file, data);
-	const { result } = await b.send("Runtime.evaluate", { expression: `[...document.querySelectorAll("input[type=file]")].find((one) => one.closest("label").innerText.startsWith(${JSON.stringify(beside)}))` });
+	const { result } = await b.send("Runtime.evaluate",
+		{ expression: `[...document.querySelectorAll("input[type=file]")].find((one) => one.closest("label").innerText.startsWith(${JSON.stringify(beside)}))` });
 	await b.send("DOM.setFileInputFiles", { files: [file], objectId: result.objectId });
 	await sleep(200);
 	fs.rmSync(folder, { recursive: true, force: true });
@@ -38,7 +39,8 @@ async function schedule(b, check) {
 	await b.until(READY);
 	await press(b, "cut");
 	await b.until(`${COUNT} === 7`);
-	const press_added = (label) => b.ev(`[...document.querySelectorAll("#schedule button")].find((one) => one.textContent === ${JSON.stringify(label)}).click()`);
+	const press_added = (label) =>
+		b.ev(`[...document.querySelectorAll("#schedule button")].find((one) => one.textContent === ${JSON.stringify(label)}).click()`);
 	await press_added("+tick");
 	await b.until(`${COUNT} === 8 && ${AT} === 8`);
 	check((await b.ev(SCHEDULE)).endsWith("tick 1\n"), "the schedule is cut, and a tick added");
@@ -76,14 +78,16 @@ async function races(b, check) {
 	await b.until("document.querySelectorAll('#outcomes tbody tr').length === 2");
 	await b.ev("document.querySelectorAll('#outcomes tbody button')[1].click()");
 	await b.until(`${READY} && xinu_page.page.beside`);
-	check(/end done/.test(await b.ev("xinu_page.page.ran.transcript")) && await b.ev("xinu_page.page.ran.transcript.includes('con 31')"), "the second outcome is stepped: it prints 1");
+	check(/end done/.test(await b.ev("xinu_page.page.ran.transcript")) && await b.ev("xinu_page.page.ran.transcript.includes('con 31')"),
+		"the second outcome is stepped: it prints 1");
 	const at = await b.ev(AT);
 	await press(b, "forth");
 	await b.until(READY);
 	check(/the clock ticks/.test(await b.ev(inner("what"))) && at > 0, "it stands before the preemption", () => b.ev(inner("what")));
 	await press(b, "tab-beside");
 	const said = await b.ev(inner("beside"));
-	check(/differ: the first difference is marked/.test(said) && await b.ev("document.querySelectorAll('.first-difference').length") === 1, "the run before is beside it", () => said.slice(0, 400));
+	check(/differ: the first difference is marked/.test(said) && await b.ev("document.querySelectorAll('.first-difference').length") === 1,
+		"the run before is beside it", () => said.slice(0, 400));
 	const rows = await b.ev("[...document.querySelectorAll('.first-difference td')].map((one) => one.innerText)");
 	check(rows[1] !== rows[3], "the marked lines differ", () => rows.join(" | "));
 	await press(b, "tab-races");
@@ -99,10 +103,13 @@ async function pictures(b, check) {
 	const [x, y] = await b.ev("(() => { const box = [...document.querySelector('#picture > div').shadowRoot.querySelectorAll('g')].find((one) => /^event 23/.test(one.querySelector('title')?.textContent || ''))?.getBoundingClientRect(); return box ? [box.x + box.width / 2, box.y + box.height / 2] : [0, 0]; })()");
 	await b.click(x, y);
 	await b.until("xinu_page.page.view === 'step'", 3000).catch(() => {});
-	check(await b.ev("xinu_page.page.view") === "step" && await b.ev(AT) > 0, "a click in the picture goes to its event", async () => `${x} ${y} ${await b.ev(AT)}`);
+	check(await b.ev("xinu_page.page.view") === "step" && await b.ev(AT) > 0, "a click in the picture goes to its event",
+		async () => `${x} ${y} ${await b.ev(AT)}`);
 	await press(b, "tab-transcript");
 	await b.ev("document.querySelectorAll('#transcript [data-event]')[3].click()");
-	check(await b.ev("xinu_page.page.view") === "step" && await b.ev(AT) === Number(await b.ev("document.querySelectorAll('#transcript [data-event]')[3].dataset.event")), "a click on a line goes to its event");
+	check(await b.ev("xinu_page.page.view") === "step"
+		&& await b.ev(AT) === Number(await b.ev("document.querySelectorAll('#transcript [data-event]')[3].dataset.event")),
+		"a click on a line goes to its event");
 	await press(b, "tab-story");
 	check(/wait in a circle/.test(await b.ev(inner("story"))), "the story tells of the circle");
 	await press(b, "tab-step");

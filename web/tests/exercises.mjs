@@ -28,7 +28,8 @@ export async function exercises(b, check) {
 		const differ = [...forth].filter(([event, text]) => back.get(event) !== text);
 		check(differ.length === 0 && forth.size === back.size && forth.size > 1, `${name}: ${forth.size} places, the same forward and back`,
 			() => `${differ.length} differ, the first at event ${differ[0]?.[0]}:\n${differ[0]?.[1]}\nand back:\n${back.get(differ[0]?.[0])}`);
-		const told = await b.ev("document.getElementById('story').textContent"), native = story_of(await b.ev("(({ programs, schedule }) => ({ programs, schedule }))(xinu_page.page.work)"));
+		const told = await b.ev("document.getElementById('story').textContent"),
+			native = story_of(await b.ev("(({ programs, schedule }) => ({ programs, schedule }))(xinu_page.page.work)"));
 		check(told === native, `${name}: the story is the native program's`, () => `${told}\nand natively\n${native}`);
 	}
 	await sleep(50);

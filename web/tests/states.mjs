@@ -46,10 +46,12 @@ function native_tables({ files, args }, events) {
 function of_schedule(name, work) {
 	const { files, args } = inputs_of(work), events = events_of(work.schedule), total = events.total;
 	for (const after of [0, total >> 1]) {
-		const answer = run_states({ module: wasm, args: ["run", ...args], files: { ...files, "schedule.txt": dumped(events.runs, after, total) } }, () => {});
+		const answer = run_states({ module: wasm, args: ["run", ...args],
+			files: { ...files, "schedule.txt": dumped(events.runs, after, total) } }, () => {});
 		const numbers = Array.from(answer.at, (_, i) => after + i), wanted = native_tables({ files, args }, numbers);
 		if (numbers.length !== wanted.length) check(false, `${name} after ${after}: ${numbers.length} states`, () => `natively ${wanted.length}`);
-		numbers.forEach((event, i) => check(answer.tables[answer.at[i]] === wanted[i], `${name}, event ${event}`, () => `${answer.tables[answer.at[i]]}\nnatively\n${wanted[i]}\n${work.schedule}`));
+		numbers.forEach((event, i) => check(answer.tables[answer.at[i]] === wanted[i], `${name}, event ${event}`,
+			() => `${answer.tables[answer.at[i]]}\nnatively\n${wanted[i]}\n${work.schedule}`));
 	}
 }
 

@@ -20,11 +20,13 @@ main:   la   a0, main
         sys  getpid
 `;
 // A module whose \`main\` stops at once: (module (memory (export "memory") 1) (func (export "main") (param i32 i64) (result i32) unreachable))
-const STOPS = Buffer.from("0061736d010000000107016002" + "7f7e017f" + "03020100" + "0503010001" + "071102" + "066d656d6f72790200" + "046d61696e0000" + "0a0501030000" + "0b", "hex");
+const STOPS = Buffer.from("0061736d010000000107016002" + "7f7e017f" + "03020100" + "0503010001" + "071102" + "066d656d6f72790200"
+	+ "046d61696e0000" + "0a0501030000" + "0b", "hex");
 
 async function with_module(b, bytes, until) {
 	const folder = fs.mkdtempSync(path.join(os.tmpdir(), "xinu-page-")), file = path.join(folder, "page.html");
-	fs.writeFileSync(file, text.replace(/(<script type="text\/plain" id="wasm">)[^]*?(<\/script>)/, (_, begin, end) => begin + zlib.gzipSync(bytes).toString("base64") + end));
+	fs.writeFileSync(file, text.replace(/(<script type="text\/plain" id="wasm">)[^]*?(<\/script>)/,
+		(_, begin, end) => begin + zlib.gzipSync(bytes).toString("base64") + end));
 	await b.open(`file://${file}`);
 	await b.until(until).catch(() => {});
 	fs.rmSync(folder, { recursive: true, force: true });
@@ -39,7 +41,9 @@ export async function strangers(b, check) {
 	check(await b.ev(alien) === 0 && !await b.ev("globalThis.was_here"), "names are texts");
 	check((await b.ev("document.getElementById('see').innerText")).includes(NAME), "and are shown");
 	await with_module(b, STOPS, "!document.getElementById('fault').hidden");
-	check(/The program stopped in the browser: unreachable/.test(await b.ev("document.getElementById('fault').innerText")), "a program that stops is told as such", () => b.ev("document.body.innerText.slice(0, 500)"));
+	check(/The program stopped in the browser: unreachable/.test(await b.ev("document.getElementById('fault').innerText")),
+		"a program that stops is told as such", () => b.ev("document.body.innerText.slice(0, 500)"));
 	await with_module(b, Buffer.from("no module"), "!document.getElementById('refusal').hidden");
-	check(/This browser can't run the program/.test(await b.ev("document.getElementById('refusal').innerText")), "a browser that can't is told", () => b.ev("document.body.innerText.slice(0, 500)"));
+	check(/This browser can't run the program/.test(await b.ev("document.getElementById('refusal').innerText")), "a browser that can't is told",
+		() => b.ev("document.body.innerText.slice(0, 500)"));
 }

@@ -53,7 +53,8 @@ async function rounds(does) {
 }
 const tell = (what, ms) => console.log(`${what}: ${ms < 1000 ? `${Math.round(ms)} ms` : `${(ms / 1000).toFixed(2)} s`}`);
 // Waits in the page itself, and answers how long that took there.
-const until_ready = (begin) => `(async () => { const start = ${begin}; while (!${READY}) await new Promise((resolve) => setTimeout(resolve, 1)); return performance.now() - start; })()`;
+const until_ready = (begin) =>
+	`(async () => { const start = ${begin}; while (!${READY}) await new Promise((resolve) => setTimeout(resolve, 1)); return performance.now() - start; })()`;
 
 async function natively() {
 	const files = { "schedule.txt": `step ${STEPS}\n`, image: assembled(LOOP) };
@@ -81,7 +82,8 @@ const b = await browser(), url = `file://${process.env.PAGE}`;
 try {
 	console.log(`the page: ${Math.round(text.length / 1000)} KB`);
 	tell("from navigation to the first run, its states and registers", await rounds(() => in_page(b, url)));
-	const image = Array.from(assembled(LOOP)), command = `xinu_page.command(["run", "--schedule", "s", "image"], { s: "step ${STEPS}\\n", image: new Uint8Array(${JSON.stringify(image)}) }).then(({ ms }) => ms)`;
+	const image = Array.from(assembled(LOOP)),
+		command = `xinu_page.command(["run", "--schedule", "s", "image"], { s: "step ${STEPS}\\n", image: new Uint8Array(${JSON.stringify(image)}) }).then(({ ms }) => ms)`;
 	tell(`${STEPS} steps in the page`, await rounds(() => b.ev(command)));
 	tell(`${STEPS} steps natively, with the start of the process`, await rounds(natively));
 	await b.ev(`xinu_page.take(${JSON.stringify({ programs: [{ name: "pair.s", text: PAIR }], schedule: "round 926\n" })})`);
