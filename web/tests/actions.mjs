@@ -4,6 +4,7 @@ import os from "node:os";
 import path from "node:path";
 import { sleep } from "./browser.mjs";
 import { READY, open_exercise } from "./exercises.mjs";
+import { compiled, has_compiler } from "./compiler.mjs";
 import { assembled, native } from "./native.mjs";
 
 const AT = "xinu_page.page.at", COUNT = "xinu_page.page.ran.count", SCHEDULE = "xinu_page.page.work.schedule";
@@ -134,6 +135,21 @@ async function uploads(b, check) {
 	const disk = Buffer.from(await b.ev("Array.from(xinu_page.page.work.disk1)"));
 	check(native(["disk", "get", "disk", "note.txt", "--out", "got"], { disk }).files.got.toString() === "kept\n", "a file is put on the disk");
 }
+// Two processes that wait in C are shown at the line that makes the call.
+async function lines_of_c(b, check) {
+	if (!has_compiler()) return;
+	const { elf, text } = compiled("examples/mistakes/deadlock.c", ["-g"]),
+		work = { about: "", programs: [{ name: "deadlock.elf" }], schedule: "round 8\n", sources: { "deadlock.c": text } };
+	await b.ev(`(() => { const work = ${JSON.stringify(work)}; work.programs[0].bytes = Uint8Array.from(atob("${Buffer.from(elf).toString("base64")}"), (one) => one.charCodeAt(0)); return xinu_page.take(work); })()`);
+	await b.until(READY);
+	await press(b, "last");
+	await b.until(READY);
+	const places = await b.ev("[...document.querySelectorAll('td.where')].map((one) => one.innerText).filter(Boolean)"),
+		line = text.split("\n").findIndex((one) => one.includes("wait(second)")) + 1;
+	check(places.length === 2 && places.every((one) => one === `deadlock.c:${line} wait(second);`), "processes in C are shown at their calls",
+		() => places.join("\n"));
+	check(await b.ev("document.querySelectorAll('#panels .tag').length") === 2, "and in the text");
+}
 async function stopping(b, check) {
 	await open(b, "turns");
 	await b.ev("xinu_page.page.work.schedule = 'step 900000000\\n'; void xinu_page.run(); 0");
@@ -157,6 +173,6 @@ async function stopping(b, check) {
 	check(at > 3, `Play goes on: to event ${at}`);
 }
 export async function actions(b, check, url) {
-	for (const part of [typing, schedule, races, pictures, uploads, stopping]) await part(b, check);
+	for (const part of [typing, schedule, races, pictures, uploads, lines_of_c, stopping]) await part(b, check);
 	await links(b, check, url);
 }

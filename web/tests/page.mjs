@@ -14,7 +14,8 @@ export function counter(name) {
 	return {
 		check(is_right, what, more = () => "") {
 			count[is_right ? "right" : "wrong"]++;
-			if (!is_right) Promise.resolve(more()).catch(String).then((text) => console.log(`${name}: ${what}: NOT RIGHT\n${String(text).slice(0, 3000)}`));
+			if (!is_right) Promise.resolve(more()).catch(String)
+				.then((text) => console.log(`${name}: ${what}: NOT RIGHT\n${String(text).slice(0, 3000)}`));
 		},
 		end() {
 			console.log(`${name}: ${count.right} right, ${count.wrong} wrong`);
