@@ -25,10 +25,14 @@ export function work_of(plain) {
 	const is_right = plain?.v === 1 && is_text(plain.schedule) && Array.isArray(plain.programs) && plain.programs.length
 		&& plain.programs.every((one) => is_text(one.name) && (is_text(one.text) || is_text(one.bytes)));
 	if (!is_right) throw new TypeError("this is no run");
-	const work = { about: is_text(plain.about) ? plain.about : "", schedule: plain.schedule, races: plain.races, sources: plain.sources,
+	const work = { about: is_text(plain.about) ? plain.about : "", schedule: plain.schedule, races: plain.races, sources: texts_given(plain.sources),
 		programs: plain.programs.map(({ name, text, bytes }) => (is_text(bytes) ? { name, bytes: from_base64(bytes) } : { name, text })) };
 	for (const disk of DISKS) if (is_text(plain[disk])) work[disk] = from_base64(plain[disk]);
 	return work;
+}
+function texts_given(sources) {
+	const texts = Object.entries(sources || {}).filter(([, text]) => typeof text === "string");
+	return texts.length ? Object.fromEntries(texts) : undefined;
 }
 export async function fragment_of(plain) {
 	return to_url(to_base64(await through(new CompressionStream("deflate-raw"), bytes_of(JSON.stringify(plain)))));
@@ -39,13 +43,15 @@ export async function work_of_fragment(fragment) {
 
 const races_given = () => [Number($("preemptions").value), Number($("within").value)];
 export const link_of = () => fragment_of(plain_of(page.work, races_given()));
-// Whether what is written is an exercise as it was, or the run that is in the page.
-const is_given = (one) => one.schedule === page.work.schedule && one.about === page.work.about && !page.work.disk0 && !page.work.disk1
-	&& one.programs.length === page.work.programs.length
-	&& one.programs.every((program, i) => program.text !== undefined && program.text === page.work.programs[i].text);
+// Whether what is written is as it was given.
+function is_given(one) {
+	const { work } = page, is_same = ({ text, bytes }, i) => text === work.programs[i].text && bytes === work.programs[i].bytes;
+	return one.schedule === work.schedule && one.about === work.about && DISKS.every((disk) => one[disk] === work[disk])
+		&& one.programs.length === work.programs.length && one.programs.every(is_same);
+}
 // What was written stays in the address, if it isn't too long: it is there after a reload.
 export async function keep() {
-	const fragment = page.exercises.some(is_given) ? "" : await link_of();
+	const fragment = [...page.exercises, page.given].some((one) => one && is_given(one)) ? "" : await link_of();
 	if (fragment.length < LONGEST) history.replaceState(null, "", fragment ? `#w=${fragment}` : location.pathname + location.search);
 }
 export async function share() {

@@ -73,13 +73,15 @@ export async function run_of(work) {
 	const regions = images.map(region_of), transcript = utf8(answer.out);
 	return {
 		schedule: work.schedule, images, files, args, regions, transcript, story, disks: answer.files,
-		names: work.programs.map(plain_name), texts: work.sources || {},
+		names: work.programs.map(plain_name), texts: texts_of(work.sources),
 		sources: work.programs.map((program, i) => source_of(program, regions[i])),
 		functions: images.flatMap(functions_of).sort((a, b) => a.at - b.at),
 		count: Number(/after (\d+) event/.exec(story)?.[1] ?? events.total), end: /^end (\w+)$/m.exec(transcript.slice(-20))?.[1] || "",
 		runs: events.runs, looks: new Map(), ms: performance.now() - start, is_stale: false,
 	};
 }
+// Texts by their names, which a stranger may have chosen.
+export const texts_of = (sources) => Object.assign(Object.create(null), sources);
 function source_of(program, region) {
 	if (program.bytes) return { rows: line_rows_of(program.bytes) };
 	const layout = layout_of(program.text);

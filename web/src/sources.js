@@ -3,6 +3,7 @@ import { line_rows_of } from "./dwarf.js";
 import { make } from "./dom.js";
 import { page } from "./page.js";
 import { lay_panels } from "./panels.js";
+import { texts_of } from "./runs.js";
 import { utf8 } from "./text.js";
 
 // The files that the lines of an ELF file are of.
@@ -21,5 +22,5 @@ export function source_field(program) {
 }
 export function add_source(name, text) {
 	page.work.sources = { ...page.work.sources, [name.replace(/^.*[/\\]/, "")]: text };
-	if (page.ran) page.ran.texts = page.work.sources;
+	if (page.ran) page.ran.texts = texts_of(page.work.sources);
 }
