@@ -76,10 +76,19 @@ int __xpg_strerror_r(int e, char *to, u64 room)
 	return 0;
 }
 
+/* Standard error is a terminal, so that `races` tells how far it is; there are no other links. */
 i64 readlink(const char *name, char *to, u64 room)
 {
-	(void)name, (void)to, (void)room;
-	return told(-ENOENT);
+	static const char errors[] = "/proc/self/fd/2", terminal[] = "/dev/pts/0";
+	const u64 length = sizeof terminal - 1;
+	int i;
+
+	for (i = 0; errors[i] && name[i] == errors[i]; i++)
+		;
+	if (name[i] != errors[i] || room < length)
+		return told(-ENOENT);
+	__builtin_memcpy(to, terminal, length);
+	return (i64)length;
 }
 
 int clock_gettime(int clock, i64 *to)

@@ -39,14 +39,18 @@ export function outcome_words(lines, run_shown) {
 	return { sent: sent === '""' ? "" : sent, end: ends, left };
 }
 
+function tell_progress(text) {
+	const [, tried, all] = /(\d+) of (\d+) schedules/.exec(text) || [];
+	if (all) say(`${decimal(Number(tried))} of ${decimal(Number(all))} schedules ..`);
+}
 export async function try_all() {
 	const start = performance.now(), base = page.base ?? page.work.schedule;
 	show_fault(null);
 	say("Trying ..");
 	const told = await guarded(async () => {
 		const { args, files } = inputs(page.work, await images_of(page.work), base);
-		const answer = await xinu(["races", "--preemptions", $("preemptions").value, "--within", $("within").value, "--found", "found", ...args],
-			{ files });
+		const asked = ["races", "--preemptions", $("preemptions").value, "--within", $("within").value, "--found", "found"];
+		const answer = await xinu([...asked, ...args], { files }, tell_progress);
 		if (answer.status !== 0) throw new Refused(answer.trap ? stopped_words(answer) : answer.err.trim());
 		return answer;
 	});

@@ -25,6 +25,7 @@ function host_of(run) {
 		write(fd, p, n) {
 			const file = fd === 1 || fd === 2 ? run.out[fd] : run.open.get(fd);
 			if (!file) return BigInt(-EBADF);
+			if (fd === 2) run.told?.(new TextDecoder().decode(bytes(p, n)));
 			if (fd === 1 && run.sink) run.sink(bytes(p, n));
 			else file.pieces.push(bytes(p, n).slice());
 			return n;
@@ -73,12 +74,16 @@ function files_of_host(run) {
 	};
 }
 
-// Runs { module, args, files, stdin, sink }: the answer is { status, trap, out, err, files, ms } with the files that were written.
-// `sink(bytes)` takes standard output in place of a buffer. A program that stops is status -1, with why in `trap`.
-export function run_command({ module, name = "xinu_run", args, files = {}, stdin = new Uint8Array(0), sink }) {
+// what `races` writes on a terminal to tell how far it is, and how it takes that away
+const PROGRESS = /\r(\d+ of \d+ schedules|\x1b\[K)/g;
+
+// Runs { module, args, files, stdin, sink, told }: the answer is { status, trap, out, err, files, ms } with the files that were written.
+// `sink(bytes)` takes standard output in place of a buffer, `told(text)` is told how far the command is.
+// A program that stops is status -1, with why in `trap`.
+export function run_command({ module, name = "xinu_run", args, files = {}, stdin = new Uint8Array(0), sink, told }) {
 	const disk = new Map(Object.entries(files).map(([file, data]) => [file, as_bytes(data)]));
 	const run = { argv: [name, ...args].map(as_bytes), disk, touched: new Set(), out: [null, { pieces: [] }, { pieces: [] }],
-		open: new Map(), next: 3, input: { data: stdin, at: 0 }, sink };
+		open: new Map(), next: 3, input: { data: stdin, at: 0 }, sink, told };
 	const start = performance.now();
 	let status = -1, trap = "";
 	try {
@@ -90,7 +95,8 @@ export function run_command({ module, name = "xinu_run", args, files = {}, stdin
 	}
 	const made = {};
 	for (const file of run.touched) made[file] = run.disk.get(file);
-	return { status, trap, out: join(run.out[1].pieces), err: new TextDecoder().decode(join(run.out[2].pieces)), files: made,
+	const err = new TextDecoder().decode(join(run.out[2].pieces)).replace(PROGRESS, "");
+	return { status, trap, out: join(run.out[1].pieces), err, files: made,
 		ms: performance.now() - start };
 }
 
@@ -109,7 +115,7 @@ function serve({ data }) {
 		kept.module = module;
 		return;
 	}
-	const whole = { ...command, module: kept.module };
-	postMessage({ id, answer: states ? run_states(whole, (done) => postMessage({ id, done })) : run_command(whole) });
+	const whole = { ...command, module: kept.module }, told = (done) => postMessage({ id, done });
+	postMessage({ id, answer: states ? run_states(whole, told) : run_command({ ...whole, told }) });
 }
 if (typeof WorkerGlobalScope !== "undefined") self.onmessage = serve;

@@ -58,6 +58,16 @@ function others() {
 	both("soak", ["soak", "7"]);
 }
 
+// A search that takes seconds tells how far it is, and its messages are as those of the native program.
+function progress() {
+	const { files, args } = inputs_of(exercises.find(({ name }) => name.endsWith("producer"))), told = [];
+	const answer = run_command({ module: wasm, args: ["races", "--preemptions", "3", "--within", "40", ...args], files,
+		told: (text) => told.push(text) });
+	check(answer.status === 0 && answer.err === "" && (answer.ms < 2000 || told.some((text) => / of 10701 schedules$/.test(text))),
+		"how far a search is", () => told.join());
+}
+
 exercises.forEach(of_exercise);
 others();
+progress();
 end();
