@@ -72,6 +72,7 @@ export function fault_of(said, text) {
 	const [, line, number] = /asm line (\d+) fault (\d+)/.exec(said) || [];
 	if (line === undefined) return { line: 0, words: said.trim() };
 	if (line === "0") return { line: 0, words: "There is no instruction in the text, or it is too long." };
-	const quoted = instruction_of(text.split("\n")[line - 1] || "");
-	return { line: Number(line), words: `line ${line}${quoted ? `, “${quoted}”` : ""}: ${FAULTS[number] || said.trim()}` };
+	const quoted = instruction_of(text.split("\n")[line - 1] || ""), call = number === "2" && /^sys ([A-Za-z_]\w*)$/.exec(quoted)?.[1];
+	const why = call ? `There is no call named ${call}.` : FAULTS[number] || said.trim();
+	return { line: Number(line), words: `line ${line}${quoted ? `, “${quoted}”` : ""}: ${why}` };
 }

@@ -57,9 +57,11 @@ export function queue_view() {
 		`${pool.free} free, ${pool.held} taken`)),
 		...devices(t, old));
 }
+// what the kernel's own semaphores are of (docs/KERNEL.md)
+const OWNED = [", of console input", ", of console output", ", of the raw disk", ", of files"];
 function semaphore(sem, is_same) {
 	const taken = page.ran.takes.findLast((one) => one.sem === sem.number && one.event <= page.at);
-	return queue(`Semaphore ${sem.number}: count ${sem.count}`, is_same,
+	return queue(`Semaphore ${sem.number}${OWNED[sem.number] || ""}: count ${sem.count}`, is_same,
 		...or_none(sem.waiters.map((process) => chip(process, "wait")), "nobody waits"),
 		taken && make("div", { class: "none" }, `last taken by ${name_of(page.ran, page.at, taken.process)}`));
 }
