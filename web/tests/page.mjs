@@ -6,7 +6,12 @@ export const text = fs.readFileSync(process.env.PAGE, "utf8");
 const part = (id) => new RegExp(`<script [^>]*id="${id}">([^]*?)</script>`).exec(text)[1].trim();
 
 export const exercises = JSON.parse(part("exercises"));
-export const wasm_module = () => new WebAssembly.Module(zlib.gunzipSync(Buffer.from(part("wasm"), "base64")));
+export function wasm_module() {
+	const bytes = zlib.gunzipSync(Buffer.from(part("wasm"), "base64"));
+	if (WebAssembly.validate(bytes)) return new WebAssembly.Module(bytes);
+	console.log("the page was built without wasm-opt, and this node has no memories of 64 bits: apt-get install binaryen, and build it once more");
+	return process.exit(1);
+}
 
 // `check(is_right, what, more)` counts, and tells what is wrong; `end` tells the count, and ends with its status.
 export function counter(name) {
