@@ -50,16 +50,16 @@ export function inputs(work, images, schedule = work.schedule) {
 
 export const stopped_words = (answer) => `The program stopped in the browser: ${answer.trap}`;
 const SCHEDULE_LINES = "Lines are step N, tick N, tx N, disk0 N, disk1 N, type HH .., fail0, fail1, dump, round N.";
-// Why a command was refused: `explain` says it in words.
+// Why `run` was refused: its line says what it was, and what `explain` adds says it in words.
 async function refusal(work, answer, { files, args }) {
 	if (answer.status === -1) return new Refused(stopped_words(answer));
-	const told = (await xinu(["explain", ...args], { files })).err || answer.err, said = told.trim();
-	const line = /schedule line (\d+)/.exec(said)?.[1], number = /image (\d+)/.exec(said)?.[1];
+	const told = (await xinu(["explain", ...args], { files })).err.trim().split("\n").filter((line) => !line.startsWith("xinu: "));
+	const line = /schedule line (\d+)/.exec(answer.err)?.[1], number = /image (\d+)/.exec(answer.err)?.[1];
 	const quoted = line && work.schedule.split("\n")[line - 1]?.trim();
 	if (line) return new Refused(`Schedule, line ${line}${quoted ? `, “${quoted}”` : ""}: there is no such line. ${SCHEDULE_LINES}`, "schedule",
 		Number(line));
-	const key = number ? `program ${number - 1}` : null, words = said.split("\n").slice(1).join("\n") || said;
-	if (!/overlaps/.test(said)) return new Refused(words, key);
+	const key = number ? `program ${number - 1}` : null, words = told.join("\n") || answer.err.trim();
+	if (!/overlaps/.test(answer.err)) return new Refused(words, key);
 	const name = program_name(work.programs[number - 1]), place = 4096 * (number - 1);
 	return new Refused(`${name} lies in RAM where an earlier program does: give it a place of its own, for example .place ${place}.`, key);
 }
