@@ -49,9 +49,11 @@ function is_given(one) {
 	return one.schedule === work.schedule && one.about === work.about && DISKS.every((disk) => one[disk] === work[disk])
 		&& one.programs.length === work.programs.length && one.programs.every(is_same);
 }
-// What was written stays in the address, if it isn't too long: it is there after a reload.
+// What was written stays in the address, if it isn't too long: it is there after a reload. The list of exercises says whose it is.
 export async function keep() {
-	const fragment = [...page.exercises, page.given].some((one) => one && is_given(one)) ? "" : await link_of();
+	const i = page.exercises.findIndex(is_given), own = page.given && is_given(page.given) ? "given" : "own";
+	$("exercise").value = i >= 0 ? String(i) : own;
+	const fragment = $("exercise").value === "own" ? await link_of() : "";
 	if (fragment.length < LONGEST) history.replaceState(null, "", fragment ? `#w=${fragment}` : location.pathname + location.search);
 }
 export async function share() {

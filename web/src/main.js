@@ -30,14 +30,11 @@ async function begin() {
 	const fragment = /^#w=(.*)$/.exec(location.hash)?.[1];
 	if (fragment) {
 		try {
-			const work = await work_of_fragment(fragment);
-			$("exercise").value = "own";
-			return await take(work);
+			return await take(await work_of_fragment(fragment));
 		} catch {
 			say("The link is damaged", true);
 		}
 	}
-	$("exercise").value = page.given ? "given" : "0";
 	return take(page.given || page.exercises[0]);
 }
 
@@ -49,7 +46,7 @@ function lay_exercises() {
 	const nodes = groups.map(([label, is_of]) => make("optgroup", { label },
 		...page.exercises.flatMap((one, i) => (is_of(one) ? [option(one, i)] : []))));
 	$("exercise").append(...(given ? [make("option", { value: "given" }, given.title || "This run")] : []), ...nodes,
-		make("option", { value: "own", hidden: true }, "From a link"));
+		make("option", { value: "own", hidden: true }, "Your own"));
 	$("exercise").addEventListener("change", ({ target }) => {
 		history.replaceState(null, "", location.pathname);
 		take(target.value === "given" ? page.given : page.exercises[target.value]);

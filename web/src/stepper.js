@@ -87,6 +87,7 @@ export function play(is_on) {
 	page.timer = is_on && page.ran?.states ? setInterval(play_on, 1000 / Number($("speed").value)) : null;
 	$("play").textContent = page.timer ? "Pause" : "Play";
 	$("play").setAttribute("aria-pressed", Boolean(page.timer));
+	$("what").setAttribute("aria-live", page.timer ? "off" : "polite");
 	if (page.timer && page.at === page.ran.count) go(0);
 }
 function play_on() {

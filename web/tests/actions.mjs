@@ -45,6 +45,7 @@ async function schedule(b, check) {
 	await press_added("+tick");
 	await b.until(`${COUNT} === 8 && ${AT} === 8`);
 	check((await b.ev(SCHEDULE)).endsWith("tick 1\n"), "the schedule is cut, and a tick added");
+	check(await b.ev("document.getElementById('exercise').value") === "own", "it is one's own then");
 	await b.ev("(() => { const one = document.querySelector('#schedule textarea'); one.value = 'step 1\\nwalk 2\\n'; one.dispatchEvent(new Event('input')); })()");
 	await press(b, "run");
 	await b.until("!document.getElementById('fault').hidden");
