@@ -40,6 +40,9 @@ export function choose_tab(list, chosen) {
 		tab.tabIndex = is_it ? 0 : -1;
 		$(tab.getAttribute("aria-controls")).hidden = !is_it;
 	}
+	// a list that is too long for its place is scrolled, and nothing else
+	const is_seen = chosen.offsetLeft >= list.scrollLeft && chosen.offsetLeft + chosen.offsetWidth <= list.scrollLeft + list.clientWidth;
+	if (!is_seen) list.scrollLeft = chosen.offsetLeft - chosen.offsetWidth;
 }
 // Arrows, Home and End go from tab to tab, as in a tab list of any system.
 export function keys_of_tabs(list) {

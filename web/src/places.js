@@ -20,10 +20,10 @@ export function place_of(run, pc, is_in_call = false) {
 	return null;
 }
 // The row of an address. What was put in place of a call, such as a function of xinu.h, is shown at the line of the call: at the last row
-// before it, in the same function, whose text is given, or which is of no header.
+// before it, in the same function, that is of no header and whose text is given, if any is.
 function row_at(run, rows, pc) {
-	const begin = function_of(run, pc)?.at ?? pc, is_shown = ({ file }) => (Object.keys(run.texts).length ? file in run.texts : !file.endsWith(".h"));
-	const i = last_at_most(rows, pc, (one) => one.at);
+	const begin = function_of(run, pc)?.at ?? pc, has_texts = Object.keys(run.texts).length > 0, i = last_at_most(rows, pc, (one) => one.at);
+	const is_shown = ({ file }) => !file.endsWith(".h") && (!has_texts || file in run.texts);
 	if (i < 0 || rows[i].is_end || !rows[i].line) return null;
 	for (let k = i; k >= 0 && rows[k].at >= begin && !rows[k].is_end; k--) if (is_shown(rows[k])) return rows[k];
 	return rows[i];
