@@ -52,6 +52,6 @@ export function place_words(run, pc, is_in_call) {
 export function instruction_words(run, step) {
 	const place = place_of(run, step.pc);
 	if (!place) return step.place ? `${step.text} in ${step.place}` : step.text;
-	if (place.file) return `${step.text}, of ${place.text}`;
+	if (place.file) return `${step.text} (${place.text})`;
 	return place.size === 8 ? `${place.text}, ${place.at === step.pc ? "1st" : "2nd"} instruction: ${step.text}` : place.text;
 }

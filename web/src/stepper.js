@@ -6,6 +6,7 @@ import { $, make, say } from "./dom.js";
 import { Stopped, xinu } from "./engine.js";
 import { PC, answers, questions } from "./gdb.js";
 import { state } from "./history.js";
+import { last_line, next_line } from "./lines.js";
 import { data_view, map_view, register_view, watched } from "./memory.js";
 import { page } from "./page.js";
 import { choose_key } from "./panels.js";
@@ -20,11 +21,10 @@ import { bytes_of, count, decimal, last_at_most, utf8 } from "./text.js";
 // of how many processes registers are fetched, how many events around one, and over how many steps are listed
 const LIVING = 12, AROUND = 40, STOPS_AROUND = 15, LISTED = 1500;
 
-const is_at_all = () => $("by").value === "all";
 // The events that the slider goes over.
 export function slider_list() {
-	const { ran } = page;
-	return is_at_all() ? Array.from({ length: ran.last - ran.first + 1 }, (_, i) => ran.first + i) : ran[$("by").value];
+	const { ran } = page, by = $("by").value;
+	return by === "all" ? Array.from({ length: ran.last - ran.first + 1 }, (_, i) => ran.first + i) : by === "stops" ? ran.stops : ran.folds;
 }
 export function set_slider() {
 	const slider = $("slider"), list = slider_list();
@@ -73,10 +73,15 @@ const last_in = (list) => {
 	const i = last_at_most(list, page.at), here = list[i] === page.at ? i - 1 : i;
 	return list[here] ?? Math.max(page.ran.first - 1, 0);
 };
-const steps = () => (is_at_all() ? page.list : page.ran.folds);
+const steps = () => ($("by").value === "all" ? page.list : page.ran.folds);
+const is_by_lines = () => $("by").value === "lines";
 export const WAYS = {
-	first: () => go(0), less: () => go(last_in(page.ran.stops)), back: () => go(last_in(steps())),
-	forth: () => go(next_in(steps())), more: () => go(next_in(page.ran.stops)), last: () => go(page.ran.count),
+	first: () => go(0),
+	less: () => go(last_in(page.ran.stops)),
+	back: () => go(is_by_lines() ? last_line(page.ran, page.at) : last_in(steps())),
+	forth: () => go(is_by_lines() ? next_line(page.ran, page.at) : next_in(steps())),
+	more: () => go(next_in(page.ran.stops)),
+	last: () => go(page.ran.count),
 };
 export const go_to_place = (i) => go(page.list[i]);
 export const go_to_click = (click) => page.ran?.states && go_to_place(place_of_click(click, page.list.length));
@@ -92,6 +97,7 @@ export function play(is_on) {
 }
 function play_on() {
 	if (!page.ran?.states || page.at >= page.ran.count) play(false);
+	else if (is_by_lines()) WAYS.forth();
 	else go(next_in(page.list));
 }
 

@@ -1,6 +1,6 @@
 // steps.js - what `explain --steps` lists: which instruction each step carries out
 
-const STEP = /^event (\d+): (\d+) (.*?),? pc 0x([0-9a-f]+)(?: ([^:]*))?: (.*)$/;
+const STEP = /^event (\d+): (\d+) (.*?),? pc 0x([0-9a-f]+)(?:,? ([^:]*))?: (.*)$/;
 
 // The steps of a list by their events, each { process, pc, place, text, effect }: the place is a function and a distance, the effect the
 // register or the word that has a new value. A line of another form, such as that of a step that carries out nothing, isn't one of them.

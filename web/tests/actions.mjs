@@ -150,6 +150,20 @@ async function lines_of_c(b, check) {
 	check(places.length === 2 && places.every((one) => one === `deadlock.c:${line} wait(second);`), "processes in C are shown at their calls",
 		() => places.join("\n"));
 	check(await b.ev("document.querySelectorAll('#panels .tag').length") === 2, "and in the text");
+	await b.ev("document.getElementById('by').value = 'lines'");
+	await press(b, "first");
+	const marked = async () => {
+		await b.until(READY);
+		return b.ev("Math.round((parseFloat(document.querySelector('#panels .panel:not([hidden]) .bar.next')?.style.top) - 8) / 20) + 1");
+	};
+	for (let k = 0; k < 40 && (await marked()) !== line - 2; k++) await press(b, "forth");
+	const lines = [await marked()];
+	for (let k = 0; k < 2; k++) {
+		await press(b, "forth");
+		lines.push(await marked());
+	}
+	check(lines.includes(line - 1), "steps go over lines of C", () => lines.join());
+	await b.ev("document.getElementById('by').value = 'folds'");
 }
 async function stopping(b, check) {
 	await open(b, "turns");

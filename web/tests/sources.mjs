@@ -56,6 +56,9 @@ function lines_of_c() {
 		const wanted = [...told.matchAll(/^(\S+\.[cSh]) +(\d+) +(0x[0-9a-f]+|0)\b/gm)].map(([, file, line, at]) =>
 			`${file}:${line}:${Number(at)}`).sort();
 		const got = line_rows_of(elf).filter((row) => !row.is_end).map(({ file, line, at }) => `${file}:${line}:${at}`).sort();
+		const { files, args } = inputs_of({ programs: [{ bytes: elf }], schedule: "step 40\n" }),
+			steps = steps_of(native(["explain", "--steps", "1..40", ...args], files).out.toString());
+		check([...steps.values()].some(({ place }) => place === "main+0"), `${name}: its steps have places`);
 		check(got.length > 50 && got.join() === wanted.join(), `${name}: lines of version ${version}`,
 			() => `${got.length}, by objdump ${wanted.length}`);
 	}
