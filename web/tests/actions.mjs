@@ -1,10 +1,11 @@
 // actions.mjs - what a person does on the page: types, clicks, uploads, plays, stops
+import { spawnSync } from "node:child_process";
 import fs from "node:fs";
 import os from "node:os";
 import path from "node:path";
 import { sleep } from "./browser.mjs";
 import { READY, open_exercise } from "./exercises.mjs";
-import { compiled, has_compiler } from "./compiler.mjs";
+import { TOP, compiled, has_compiler } from "./compiler.mjs";
 import { assembled, native } from "./native.mjs";
 
 const AT = "xinu_page.page.at", COUNT = "xinu_page.page.ran.count", SCHEDULE = "xinu_page.page.work.schedule";
@@ -72,6 +73,22 @@ async function links(b, check, url) {
 	await b.open(`${url}#w=nothing`);
 	await b.until(`globalThis.xinu_page && ${READY}`);
 	check(await b.ev("xinu_page.page.work.programs[0].name") === "hello.s", "a damaged link is told, and the first exercise is there");
+}
+// What web/link writes: the end of a link, and a page.
+async function written_links(b, check, url) {
+	const folder = fs.mkdtempSync(path.join(os.tmpdir(), "xinu-link-")), program = "        sys  getpid\n        sys  exit\n# </script>\n";
+	fs.writeFileSync(path.join(folder, "own.s"), program);
+	fs.writeFileSync(path.join(folder, "s.txt"), "step 3\n");
+	const words = ["--schedule", "s.txt", "--title", "Monday", "--page", process.env.PAGE];
+	const link = (...more) => spawnSync(`${TOP}web/link`, [...words, ...more, "own.s"], { cwd: folder }).stdout.toString().trim();
+	for (const place of [url + link("--fragment"), `file://${folder}/${link("--out", "own.html")}`]) {
+		await b.open("about:blank");
+		await b.open(place);
+		await b.until(`${READY} && ${COUNT} === 3`);
+		check(await b.ev("xinu_page.page.work.programs[0].text") === program, `web/link wrote ${place.slice(0, 60)}`);
+	}
+	check(await b.ev("document.getElementById('exercise').selectedOptions[0].text") === "Monday", "and its title");
+	fs.rmSync(folder, { recursive: true, force: true });
 }
 async function races(b, check) {
 	await open(b, "lost_update");
@@ -190,4 +207,5 @@ async function stopping(b, check) {
 export async function actions(b, check, url) {
 	for (const part of [typing, schedule, races, pictures, uploads, lines_of_c, stopping]) await part(b, check);
 	await links(b, check, url);
+	await written_links(b, check, url);
 }
