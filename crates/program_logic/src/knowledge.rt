@@ -14,8 +14,8 @@ pub struct Facts {
     pub word: Slot,
 }
 
-// What is known of a register: x0 is 0.
-pub(crate) fn slot_of(facts: &Facts, i: u8) -> Slot
+/// What is known of a register: x0 is 0.
+pub fn slot_of(facts: &Facts, i: u8) -> Slot
     ensures { result ≡ terms.slot_of facts.now i }
 {
     if i == 0 {
@@ -27,8 +27,8 @@ pub(crate) fn slot_of(facts: &Facts, i: u8) -> Slot
     }
 }
 
-// What is known once a register was given a value.
-pub(crate) fn given(facts: &Facts, i: u8, slot: Slot) -> Facts
+/// What is known once a register was given a value.
+pub fn given(facts: &Facts, i: u8, slot: Slot) -> Facts
     ensures { result ≡ terms.given facts.now i slot }
 {
     let mut after = *facts;
@@ -69,8 +69,8 @@ fn all_fixed(registers: &[Slot; 32]) -> [Slot; 32]
     kept
 }
 
-// What is known once a call was answered with 0, and others ran.
-pub(crate) fn after_call(facts: &Facts, word: Slot) -> Facts
+/// What is known once a call was answered with 0, and others ran.
+pub fn after_call(facts: &Facts, word: Slot) -> Facts
     ensures { result ≡ record { registers = slice_set (terms.all_fixed facts.now.registers) 10 (Slot.Known (terms.constant 0)); word = word } }
 {
     let mut registers = all_fixed(&facts.registers);

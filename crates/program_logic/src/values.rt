@@ -22,8 +22,8 @@ pub enum Slot {
     Known(Term),
 }
 
-// A number.
-pub(crate) fn constant(number: u32) -> Slot
+/// A number.
+pub fn constant(number: u32) -> Slot
     ensures { result ≡ Slot.Known (terms.constant number) }
 {
     Slot::Known(Term {
@@ -32,8 +32,8 @@ pub(crate) fn constant(number: u32) -> Slot
     })
 }
 
-// What is known of a sum.
-pub(crate) fn slots_added(a: Slot, b: Slot) -> Slot
+/// What is known of a sum.
+pub fn slots_added(a: Slot, b: Slot) -> Slot
     ensures { result ≡ terms.slots_added a b }
 {
     match (a, b) {
@@ -45,8 +45,8 @@ pub(crate) fn slots_added(a: Slot, b: Slot) -> Slot
     }
 }
 
-// The term once the count is greater by one.
-pub(crate) fn once_more(t: Term) -> Term
+/// The term once the count is greater by one.
+pub fn once_more(t: Term) -> Term
     ensures { result ≡ terms.once_more t }
 {
     Term {
@@ -55,8 +55,8 @@ pub(crate) fn once_more(t: Term) -> Term
     }
 }
 
-// Whether a value is known to be this number.
-pub(crate) fn is_constant(slot: Slot, number: u32) -> bool
+/// Whether a value is known to be this number.
+pub fn is_constant(slot: Slot, number: u32) -> bool
     ensures { result ≡ terms.is_constant slot number }
 {
     match slot {
@@ -65,8 +65,8 @@ pub(crate) fn is_constant(slot: Slot, number: u32) -> bool
     }
 }
 
-// Whether two values are known to be the same.
-pub(crate) fn are_same(a: Slot, b: Slot) -> bool
+/// Whether two values are known to be the same.
+pub fn are_same(a: Slot, b: Slot) -> bool
     ensures { result ≡ terms.are_same a b }
 {
     match (a, b) {
@@ -75,8 +75,8 @@ pub(crate) fn are_same(a: Slot, b: Slot) -> bool
     }
 }
 
-// Whether two values are known to be two numbers that differ.
-pub(crate) fn differ(a: Slot, b: Slot) -> bool
+/// Whether two values are known to be two numbers that differ.
+pub fn differ(a: Slot, b: Slot) -> bool
     ensures { result ≡ terms.differ a b }
 {
     match (a, b) {
@@ -106,8 +106,8 @@ pub(crate) fn fixed(slot: Slot) -> Slot
     }
 }
 
-// Whether it is known to be a number of ticks.
-pub(crate) fn is_ticks(slot: Slot) -> bool
+/// Whether it is known to be a number of ticks.
+pub fn is_ticks(slot: Slot) -> bool
     ensures { result ≡ places.is_ticks slot }
 {
     match slot {
