@@ -33,7 +33,7 @@ pub enum Answer {
 ///
 /// # Errors
 /// `Overlap` and `NoRoom` if they don't boot; `NoMemory`.
-pub fn prove(
+pub fn prove_images(
     alloc: Global,
     images: &[Image<'_>],
     lock: &Lock,

@@ -4,7 +4,7 @@ use Rattle.program_logic.specs.Kept.{programs_in}
 use Rattle.program_logic.specs.SystemCheck.{ram_checks}
 use Rattle.xinu_model.specs.Boot.{with_images}
 use Rattle.prove_command.proofs.Proved.{proved}
-use Rattle.prove_command.proofs.proving.prove.Goals as goal
+use Rattle.prove_command.proofs.proving.prove_images.Goals as goal
 
 pub returns-then-are_proved : goal.returns-then-are_proved
 returns-then-are_proved c =
