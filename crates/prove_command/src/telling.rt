@@ -34,7 +34,7 @@ pub(crate) fn tell_proof(
             add_held(&mut text, names[i], table, &ranges[i]);
         }
     }
-    text.put("\n  elsewhere they touch neither the word nor other RAM\n");
+    text.put("\n  without it they never touch the word\n");
     text
 }
 
