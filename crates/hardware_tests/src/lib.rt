@@ -12,4 +12,6 @@ mod hart;
 #[cfg(test)]
 mod host;
 #[cfg(test)]
+mod opcodes;
+#[cfg(test)]
 mod rows;
