@@ -27,7 +27,12 @@ pub(crate) fn tell_proof(
         "\n  rounds: how often the lock was given back (signal on ",
         lock.sem as u64,
     );
-    text.numbered(") · processes, each always alive: ", names.len() as u64);
+    text.numbered("); ", names.len() as u64);
+    if names.len() == 1 {
+        text.put(" process, always alive");
+    } else {
+        text.put(" processes, each always alive");
+    }
     text.put("\n  with the lock:");
     for i in 0..ranges.len() {
         if i < names.len() {
