@@ -24,7 +24,7 @@ PATH = re.compile(r"[\w.-]+(?:/[\w.*-]+)+/?|[\w-]+\.(?:rt|antt|md|py|txt|s|c|h|l
 BOOK = re.compile(r"\w+\.[ch]|PR_\w+|resched_cntl")
 ELSEWHERE = {"send_begin", "recv_begin", "send_end", "recv_end", "Sent", "OutOfNodes", "sems_of", "begin_io", "go_on_io", "device_wait",
              "device_signal", "FileName", "0X1"}
-MADE = {"out/xinu_run", "sum.s", "steps.txt", "check.txt", "lab12/crates/pool/src/pool.rt"}
+MADE = {"out/xinu_run", "web/out/xinu.html", "sum.s", "steps.txt", "check.txt", "lab12/crates/pool/src/pool.rt"}
 
 
 def pages():
