@@ -1,2 +1,3 @@
+pub mod KeptRegisters
 pub mod Registers
 pub mod SameInputs

@@ -1,2 +1,4 @@
+pub mod Changes
+pub mod Happenings
 pub mod Sights
 pub mod Traces

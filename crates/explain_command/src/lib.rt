@@ -9,22 +9,25 @@
 //! |---|---|
 //! | [`explain`] | tells the run that the arguments ask for, or refuses as `run` does, and answers the exit status |
 //!
-//! The run is a `Replay`, so what is told of it is that of the state after the events that were taken: `seen` of `look` in `sights.rt` says it
-//! of the registers and the place ahead of a step, `line` of `register_line` and `place_line` of their text, and `tables` in `running.rt` of the
-//! tables.
+//! The run is a `Replay`. What is shown of an event was seen in the state ahead of it, and what it changed is what the state after it has
+//! otherwise: `shown` of `happen` in `happenings.rt` says so, and traps and the list are told from what it answers. `line` of `register_line`,
+//! `place_line` and `call_line` is of their texts, and `tables` in `running.rt` of the tables from which the story is told.
 #![tactic(auto)]
 
 mod callers;
 mod changes;
 mod command;
 mod faults;
+mod happenings;
 mod listing;
 mod places;
 mod running;
 mod sights;
+mod steps;
 mod telling;
 mod traces;
 mod traps;
+mod unsent;
 mod words;
 
 pub use command::explain;

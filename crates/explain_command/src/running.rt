@@ -4,12 +4,13 @@ ghost use Rattle.std.specs.Prelude.{◌≡◌, ◌<◌, false, IfOk};
 ghost use Rattle.replayed_run.specs.Replayed.{HasInputs, is_at_end};
 ghost use Rattle.xinu_model.specs.Text.{tables_of, text};
 
-use crate::sights::look;
+use crate::happenings::happen;
 use crate::telling::Telling;
+use crate::unsent::tell_unsent;
 use crate::words::Listed;
 use host_port::HostFault;
 use machine::Go;
-use replayed_run::{Printed, Replay, Taken};
+use replayed_run::{Printed, Replay};
 use run_story::Story;
 use std::alloc::Global;
 use xinu_base::{End, Event};
@@ -31,6 +32,7 @@ pub(crate) fn tell(
 fn tell_run(replay: &mut Replay, telling: &mut Telling) -> Result<String, HostFault> {
     telling.story.begin(tables(replay)?.lines());
     let end = take_events(replay, telling)?;
+    tell_unsent(&mut telling.story, replay.state())?;
     Ok(telling.text(end)?)
 }
 
@@ -58,11 +60,10 @@ fn take_event(replay: &mut Replay, event: Event, telling: &mut Telling) -> Resul
         telling.story.quiet(1);
         return Ok(Go::Goes);
     }
-    let seen = look(replay);
-    let taken = take(replay)?;
-    let lines = taken.lines();
+    let shown = happen(replay)?;
+    let lines = shown.taken.lines();
     if is_listed {
-        telling.list(replay, event, &seen, lines);
+        telling.list(event, &shown, replay.files());
     }
     if Story::needs_tables(event, lines) {
         telling.story.event(event, lines, tables(replay)?.lines());
@@ -70,22 +71,12 @@ fn take_event(replay: &mut Replay, event: Event, telling: &mut Telling) -> Resul
         telling.story.quiet(1);
     }
     if lines.starts_with("trap ") {
-        telling.trap(replay, &seen);
+        telling.trap(replay, &shown.seen);
     }
-    Ok(taken.go)
-}
-
-// The next event is taken.
-fn take(replay: &mut Replay) -> Result<Taken, HostFault>
-    requires goes_on { is_at_end replay.old ≡ false }
-    ensures further { IfOk result (λ _. replay.old.taken < replay.new.taken) }
-    ensures inputs { HasInputs replay.old.disks replay.old.files replay.old.events replay.new }
-{
-    match replay.take() {
-        Ok(Some(taken)) => Ok(taken),
-        Ok(None) => unreachable!(),
-        Err(fault) => Err(HostFault::from(fault)),
+    if matches!(shown.taken.go, Go::Panic) {
+        telling.panic(&shown.seen);
     }
+    Ok(shown.taken.go)
 }
 
 // The tables after the events that were taken.

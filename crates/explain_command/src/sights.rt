@@ -1,24 +1,38 @@
-//! What is seen of a run ahead of a step: the registers of the current process, and the word that it is about to execute.
+//! What is seen of a run ahead of a step: what the current process does in it, its registers, the word at its pc, and the call that it makes or
+//! goes on in.
 
 ghost use Rattle.std.specs.Prelude.{◌≡◌, ◌+◌, ◌++◌, ◌<◌, ◌≤◌, length};
 ghost use Rattle.explain_command.specs.Sights as specs;
-ghost use Rattle.explain_command.specs.Sights.{IsSeen, IsSeenIn};
+ghost use Rattle.explain_command.specs.Sights.{IsSeen, IsSeenIn, deed_in};
 ghost use Rattle.xinu_model.specs.Sound.State.{IsSound};
 
 use machine::KernelState;
 use replayed_run::Replay;
 use rv_disasm::{AsmLine, register_name};
 use rv_hart::Hart;
-use xinu_base::Pid;
+use xinu_base::{Call, Pid};
 
-/// The current process, its registers, and the word at its pc, if RAM has one there.
+/// What the current process does in a step.
+#[derive(Clone, Copy, PartialEq, Eq)]
+pub(crate) enum Deed {
+    /// Nothing: it is the null process.
+    Nothing,
+    /// It goes on in the call that it waited in, and executes nothing.
+    GoesOn,
+    /// It executes the word at its pc.
+    Executes,
+}
+
+/// The current process, what it does next, its registers, the word at its pc, if RAM has one there, and the call that its registers ask for.
 #[derive(Clone, Copy)]
 pub(crate) struct Sight {
     /// How many events were taken before.
     pub(crate) taken: u32,
     pub(crate) process: Pid,
+    pub(crate) deed: Deed,
     pub(crate) hart: Hart,
     pub(crate) word: Option<u32>,
+    pub(crate) call: Call,
     /// The lowest address of its stack, and the first one after it.
     pub(crate) stack: (u32, u32),
 }
@@ -45,9 +59,24 @@ fn seen(k: &KernelState, taken: u32) -> Sight
     Sight {
         taken,
         process,
+        deed: deed_in(k),
         hart,
         word,
+        call: k.call_of(),
         stack: (end.saturating_sub(entry.stack_size), end),
+    }
+}
+
+// What the current process does in the next step.
+fn deed_in(k: &KernelState) -> Deed
+    ensures deed { result ≡ deed_in k.now.call.state }
+{
+    if k.tables.current().index() == 0 {
+        Deed::Nothing
+    } else if k.tables.is_done() {
+        Deed::Executes
+    } else {
+        Deed::GoesOn
     }
 }
 

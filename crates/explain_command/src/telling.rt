@@ -3,10 +3,12 @@
 ghost use Rattle.std.specs.Prelude.{◌≡◌, ◌+◌};
 
 use crate::callers::add_callers;
-use crate::changes::changes_of;
+use crate::happenings::Happening;
 use crate::listing::{add_changes, name_of};
+use crate::places::shown;
 use crate::sights::Sight;
-use crate::traps::{add_place, add_trap};
+use crate::steps::{add_step, call_line};
+use crate::traps::add_trap;
 use crate::words::Listed;
 use printed_runs::Text;
 use replayed_run::Replay;
@@ -39,22 +41,22 @@ impl Telling {
         self.listed.has(number_after(taken))
     }
 
-    /// Lists an event that was just taken and printed these lines, by what was seen ahead of it: of a step the process, by its number and
-    /// name, its place, its instruction and what that changed; of another event its name.
-    pub(crate) fn list(&mut self, replay: &Replay, event: Event, seen: &Sight, lines: &str) {
+    /// Lists an event that was just taken, and the lines that it printed. By what was seen ahead of it: of a step the process, by its number and
+    /// name, what it did and what that changed; of another event its name.
+    pub(crate) fn list(&mut self, event: Event, shown: &Happening, files: &[Vec<u8>]) {
         let text = &mut self.listing;
+        let seen = &shown.seen;
         text.numbered("event ", number_after(seen.taken));
         text.put(": ");
         if matches!(event, Event::Step) {
             self.story.add_who(text, seen.process.index());
-            text.put(", ");
-            add_place(text, seen, replay.files());
-            add_changes(text, &changes_of(replay, seen));
+            add_step(text, seen, files);
+            add_changes(text, &shown.changes);
         } else {
             text.put(name_of(event));
         }
         text.put("\n");
-        for line in lines.lines() {
+        for line in shown.taken.lines().lines() {
             text.put("    ");
             text.put(line);
             text.put("\n");
@@ -67,6 +69,12 @@ impl Telling {
         add_trap(&mut text, seen, replay.files());
         add_callers(&mut text, replay.state(), seen, replay.files());
         self.story.detail(&text);
+    }
+
+    /// Tells in which call the kernel panicked in the last event.
+    pub(crate) fn panic(&mut self, seen: &Sight) {
+        let line = call_line(seen);
+        self.story.panic(shown(line.bytes()).trim_end());
     }
 
     /// The list, and the story after it, if the run ended so.

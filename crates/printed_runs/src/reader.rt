@@ -1,71 +1,67 @@
 //! The reader of a run's tables, which is told the lines of each event.
 
-use crate::doings::{ABSENT, Awaited, Doing};
-use crate::tables::{PROCESSES, Shown, number_of, read_tables};
-use crate::takers::Takers;
-use xinu_base::State;
+ghost use Rattle.std.specs.Prelude.{◌≡◌, [], List, IfSome};
+ghost use Rattle.printed_runs.specs.Notes.{said_after};
+ghost use Rattle.printed_runs.specs.Semaphores as specs;
+ghost use Rattle.printed_runs.specs.Semaphores.{Knows};
+ghost use Rattle.printed_runs.specs.declared.notes.Note.{Note};
+ghost use Rattle.text_lines.specs.Lines.{lines_of};
+
+use crate::doings::{Awaited, Doing};
+use crate::notes::note_of;
+use crate::tables::{Shown, read_tables};
+use crate::usages::{Usage, Usages};
+use text_lines::first_line;
+use xinu_base::Sem;
 
 /// What the lines of the events so far told.
 #[derive(Clone, Copy)]
 pub struct Reader {
-    /// What each process asked for in its last call.
-    asked: [Doing; PROCESSES],
-    /// Who took each semaphore last.
-    takers: Takers,
+    usages: Usages,
 }
 
 impl Reader {
     /// Of no line.
-    pub fn new() -> Reader {
+    pub fn new() -> Reader
+        ensures knows { Knows [] result.usages }
+    {
         Reader {
-            asked: [ABSENT; PROCESSES],
-            takers: Takers::new(),
+            usages: Usages::new(),
         }
     }
 
     /// Notes the lines of an event.
-    pub fn note(&mut self, lines: &str) {
-        for line in lines.lines() {
-            self.takers.note(line);
-            if let Some((caller, doing)) = asked_by(line) {
-                if let Some(place) = self.asked.get_mut(caller as usize) {
-                    *place = doing;
-                }
-            }
-        }
+    pub fn note(&mut self, lines: &str)
+        ensures knows { (said : List Note) → Knows said self.old.usages → Knows (said_after (lines_of lines.now) said) self.new.usages }
+    {
+        note_all(&mut self.usages, lines.as_bytes());
     }
 
     /// What tables show. A process that waits on a semaphore that processes made is said to wait for what its last call asked for, if it
     /// asked for a buffer or a port.
     pub fn read(&self, tables: &str) -> Shown {
-        read_tables(tables, &self.asked)
+        read_tables(tables, &self.usages.asked)
     }
 
-    /// The process that took the semaphore last for which a process waits, if it waits for one and that is known.
-    pub fn taker(&self, doing: Doing) -> Option<u32> {
-        match doing.awaited {
-            Awaited::Semaphore => self.takers.last(doing.number),
+    /// How the semaphore was used for which a process waits, if it waits for one.
+    pub fn usage(&self, doing: Doing) -> Option<Usage>
+        ensures usage { (said : List Note) → Knows said self.now.usages → IfSome result (λ u. u ≡ specs.usage said doing.number) }
+    {
+        match (doing.awaited, Sem::from_word(doing.number)) {
+            (Awaited::Semaphore, Some(semaphore)) => Some(self.usages.usage(semaphore)),
             _ => None,
         }
     }
 }
 
-// What a call asks for that its caller may have to wait for: a buffer, a message or the room for one. Its caller is the first part.
-fn asked_by(line: &str) -> Option<(u32, Doing)> {
-    let mut words = line.split_whitespace();
-    if words.next().unwrap_or("") != "call" {
-        return None;
+// Notes what the lines of a text say.
+fn note_all(usages: &mut Usages, text: &[u8])
+    ensures knows { (said : List Note) → Knows said usages.old → Knows (said_after (lines_of text.now) said) usages.new }
+{
+    let mut rest = text;
+    while !rest.is_empty() {
+        let (line, left) = first_line(rest);
+        usages.note(note_of(line));
+        rest = left;
     }
-    let caller = number_of(words.next());
-    let awaited = match words.next().unwrap_or("") {
-        "getbuf" => Awaited::Pool,
-        "ptsend" | "ptrecv" => Awaited::Port,
-        _ => Awaited::Nothing,
-    };
-    let doing = Doing {
-        state: State::Waiting,
-        awaited,
-        number: number_of(words.next()),
-    };
-    Some((caller, doing))
 }

@@ -1,6 +1,7 @@
 //! The tables of the machine, as it prints them, read for what each process is doing.
 
 use crate::doings::{ABSENT, Awaited, Doing};
+use crate::notes::Asked;
 use crate::text::Text;
 use std::alloc::Global;
 use xinu_base::State;
@@ -27,7 +28,7 @@ pub struct Made {
 }
 
 /// What the tables show, if the processes asked for these things last.
-pub(crate) fn read_tables(tables: &str, asked: &[Doing; 64]) -> Shown {
+pub(crate) fn read_tables(tables: &str, asked: &[Asked; 64]) -> Shown {
     let mut shown = Shown {
         doings: [ABSENT; 64],
         ticks: 0,
@@ -39,7 +40,7 @@ pub(crate) fn read_tables(tables: &str, asked: &[Doing; 64]) -> Shown {
 }
 
 // Reads a line of the tables.
-fn read_line(shown: &mut Shown, line: &str, asked: &[Doing; 64]) {
+fn read_line(shown: &mut Shown, line: &str, asked: &[Asked; 64]) {
     let mut words = line.split_whitespace();
     let kind = words.next().unwrap_or("");
     let first = number_of(words.next());
@@ -72,22 +73,22 @@ fn put_sleeper(shown: &mut Shown, process: u32, wake: u32) {
     }
 }
 
-// What a process is doing that waits on a semaphore.
-fn waiting(semaphore: u32, process: u32, asked: &[Doing; 64]) -> Doing {
-    let awaited = match semaphore {
-        0 => Awaited::Input,
-        1 => Awaited::Room,
-        2 => Awaited::Disk,
-        3 => Awaited::Files,
-        _ => Awaited::Semaphore,
+// What a process is doing that waits on a semaphore: one that a process made is its own, a pool's or a port's.
+fn waiting(semaphore: u32, process: u32, asked: &[Asked; 64]) -> Doing {
+    let asked = asked.get(process as usize).copied();
+    let (awaited, number) = match (semaphore, asked.unwrap_or(Asked::Other)) {
+        (0, _) => (Awaited::Input, 0),
+        (1, _) => (Awaited::Room, 1),
+        (2, _) => (Awaited::Disk, 2),
+        (3, _) => (Awaited::Files, 3),
+        (_, Asked::Buffer(pool)) => (Awaited::Pool, pool),
+        (_, Asked::Message(port)) => (Awaited::Port, port),
+        _ => (Awaited::Semaphore, semaphore),
     };
-    match asked.get(process as usize) {
-        Some(last) if semaphore > 3 && !matches!(last.awaited, Awaited::Nothing) => *last,
-        _ => Doing {
-            state: State::Waiting,
-            awaited,
-            number: semaphore,
-        },
+    Doing {
+        state: State::Waiting,
+        awaited,
+        number,
     }
 }
 

@@ -1,7 +1,7 @@
 //! The bands of the picture: a process does one thing from one column to another.
 
 use crate::layout::Strip;
-use printed_runs::{Awaited, Doing, Text};
+use printed_runs::{Awaited, Doing, Text, User};
 use std::alloc::Global;
 use xinu_base::State;
 
@@ -15,7 +15,7 @@ pub(crate) struct Band {
     /// Whether it is the null process that runs.
     pub(crate) is_idle: bool,
     /// The process that took the semaphore last for which this one waits.
-    pub(crate) taker: Option<u32>,
+    pub(crate) taker: Option<User>,
 }
 
 impl Band {
@@ -60,7 +60,7 @@ impl Band {
         let mut word = Text::new(alloc);
         if let (Awaited::Semaphore, Some(taker)) = (self.doing.awaited, self.taker) {
             self.doing.add_word(&mut word);
-            word.numbered(", last taken by ", taker as u64);
+            word.numbered(", last taken by ", taker.process.index() as u64);
         }
         word
     }

@@ -4,7 +4,7 @@ use crate::bands::Band;
 use crate::labels::{Lane, Link, Mark};
 use crate::recording::Recording;
 use crate::rows::Row;
-use printed_runs::{ABSENT, Doing, Shown, Text, made_as};
+use printed_runs::{ABSENT, Doing, Shown, Text, User, made_as};
 use xinu_base::State;
 
 impl Recording {
@@ -83,9 +83,17 @@ impl Recording {
             to: usize::MAX,
             doing,
             is_idle: p == 0 && matches!(doing.state, State::Current),
-            taker: self.reader.taker(doing),
+            taker: self.taker(doing),
         };
         self.is_whole = self.is_whole && self.bands.push(band).is_ok();
+    }
+
+    // Who took the semaphore last for which a process waits, if it waits for one and somebody did.
+    fn taker(&self, doing: Doing) -> Option<User> {
+        match self.reader.usage(doing) {
+            Some(usage) => usage.taker,
+            None => None,
+        }
     }
 
     // Ends the last band of a process.

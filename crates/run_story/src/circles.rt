@@ -1,28 +1,28 @@
 //! Processes that wait for each other.
 
 use crate::lives::Lives;
-use printed_runs::{Awaited, PROCESSES, Text};
+use printed_runs::{PROCESSES, Reader, Text};
 
-/// The process that took the semaphore last for which a process waits, if it waits for one itself.
-fn next(lives: &Lives, p: usize) -> Option<usize> {
-    let life = lives.life(p);
-    if !matches!(life.doing.awaited, Awaited::Semaphore) {
+/// The process that holds the lock for which a process waits, if that process still lives and can't go on.
+fn next(lives: &Lives, reader: &Reader, p: usize) -> Option<usize> {
+    let usage = reader.usage(lives.life(p).doing)?;
+    if !usage.is_lock || !usage.is_held {
         return None;
     }
-    let taker = life.taker? as usize;
-    let other = lives.life(taker);
-    if other.doing.lives() && !other.doing.is_ready() {
-        Some(taker)
-    } else {
-        None
+    let taker = usage.taker?;
+    let process = taker.process.index();
+    let other = lives.life(process).doing;
+    if taker.is_past || !other.lives() || other.is_ready() {
+        return None;
     }
+    Some(process)
 }
 
-/// Whether a process is the lowest of a circle: each waits for a semaphore that the next one took last.
-fn is_lowest(lives: &Lives, p: usize) -> bool {
+/// Whether a process is the lowest of a circle: each waits for a lock that the next one holds.
+fn is_lowest(lives: &Lives, reader: &Reader, p: usize) -> bool {
     let mut at = p;
     for _ in 0..PROCESSES {
-        match next(lives, at) {
+        match next(lives, reader, at) {
             None => return false,
             Some(other) if other == p => return true,
             Some(other) if other < p => return false,
@@ -33,19 +33,22 @@ fn is_lowest(lives: &Lives, p: usize) -> bool {
 }
 
 /// Tells of each circle of waiting processes, a line each.
-pub(crate) fn add_circles(text: &mut Text, lives: &Lives) {
+pub(crate) fn add_circles(text: &mut Text, lives: &Lives, reader: &Reader) {
     for p in 1..PROCESSES {
-        if is_lowest(lives, p) {
-            add_circle(text, lives, p);
+        if is_lowest(lives, reader, p) {
+            add_circle(text, lives, reader, p);
         }
     }
 }
 
 // Tells of the circle whose lowest process this is.
-fn add_circle(text: &mut Text, lives: &Lives, p: usize) {
+fn add_circle(text: &mut Text, lives: &Lives, reader: &Reader, p: usize) {
+    if next(lives, reader, p) == Some(p) {
+        return add_alone(text, lives, p);
+    }
     let mut at = p;
     for k in 0..PROCESSES {
-        let Some(other) = next(lives, at) else {
+        let Some(other) = next(lives, reader, at) else {
             return;
         };
         text.put(if k == 0 {
@@ -64,4 +67,12 @@ fn add_circle(text: &mut Text, lives: &Lives, p: usize) {
         }
         at = other;
     }
+}
+
+// Tells of a process that waits for a lock that it holds itself.
+fn add_alone(text: &mut Text, lives: &Lives, p: usize) {
+    lives.add_who(text, p);
+    text.put(" waits for ");
+    lives.life(p).doing.add_word(text);
+    text.put(", which it took itself and didn't signal.\n");
 }

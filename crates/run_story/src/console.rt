@@ -29,6 +29,11 @@ impl Stream {
         self.is_begun = byte != b'\n';
     }
 
+    /// Adds a byte that was typed. A carriage return ends a line.
+    pub(crate) fn add_typed(&mut self, byte: u8) {
+        self.add(if byte == b'\r' { b'\n' } else { byte });
+    }
+
     /// Adds the bytes that lines say that the console sent.
     pub(crate) fn add_sent(&mut self, lines: &str) {
         for line in lines.lines() {

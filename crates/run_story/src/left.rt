@@ -1,14 +1,14 @@
 //! The processes that are left at a run's end.
 
 use crate::lives::{Life, Lives};
-use printed_runs::{Awaited, Doing, PROCESSES, Text};
+use printed_runs::{Awaited, Doing, PROCESSES, Reader, Text, User};
 use xinu_base::State;
 
 /// From how many ticks on it is told that a process is ready and doesn't run.
 const LONG: u32 = 4;
 
 /// Tells of each process that is left besides the null process, at this tick, a line each.
-pub(crate) fn add_left(text: &mut Text, lives: &Lives, tick: u32) {
+pub(crate) fn add_left(text: &mut Text, lives: &Lives, reader: &Reader, tick: u32) {
     for p in 1..PROCESSES {
         let life = lives.life(p);
         if life.doing.lives() {
@@ -16,7 +16,7 @@ pub(crate) fn add_left(text: &mut Text, lives: &Lives, tick: u32) {
             lives.add_who(text, p);
             add_state(text, life);
             text.numbered(" since event ", life.since);
-            add_more(text, lives, life, tick);
+            add_more(text, lives, reader, life, tick);
             text.put(".\n");
         }
     }
@@ -66,13 +66,13 @@ fn add_state(text: &mut Text, life: Life) {
 }
 
 // Adds what else is told of what a process does.
-fn add_more(text: &mut Text, lives: &Lives, life: Life, tick: u32) {
+fn add_more(text: &mut Text, lives: &Lives, reader: &Reader, life: Life, tick: u32) {
     let wake = life.doing.number as u64;
     match life.doing.state {
         State::Timed => text.numbered(", at most to tick ", wake),
         State::Sleeping => text.numbered(", to tick ", wake),
         State::Ready => add_ready(text, life, tick),
-        State::Waiting => add_taker(text, lives, life),
+        State::Waiting => add_usage(text, lives, reader, life),
         _ => {}
     }
 }
@@ -90,11 +90,51 @@ fn add_ready(text: &mut Text, life: Life, tick: u32) {
     }
 }
 
-// Adds who took the semaphore last, if that is known.
-fn add_taker(text: &mut Text, lives: &Lives, life: Life) {
-    if let Some(taker) = life.taker {
-        text.put("; ");
-        lives.add_who(text, taker as usize);
-        text.put(" took it last");
+// Adds how the semaphore was used for which a process waits: who took it last, and unless it is used as a lock who signalled it last.
+fn add_usage(text: &mut Text, lives: &Lives, reader: &Reader, life: Life) {
+    if let Some(usage) = reader.usage(life.doing) {
+        add_taker(text, lives, usage.taker);
+        if !usage.is_lock {
+            add_signaller(text, lives, usage.signaller, usage.signals);
+        }
     }
+}
+
+// Adds who took a semaphore last, if somebody did.
+fn add_taker(text: &mut Text, lives: &Lives, taker: Option<User>) {
+    if let Some(user) = taker {
+        text.put("; ");
+        if add_user(text, lives, user) {
+            text.put(" took it last");
+        } else {
+            text.put(" took it last, and has ended");
+        }
+    }
+}
+
+// Adds how often a semaphore was signalled, and who did last.
+fn add_signaller(text: &mut Text, lives: &Lives, signaller: Option<User>, signals: u32) {
+    let Some(user) = signaller else {
+        return text.put("; it was never signalled");
+    };
+    if signals == 1 {
+        text.put("; it was signalled once, by ");
+    } else {
+        text.numbered("; it was signalled ", signals as u64);
+        text.put(" times, last by ");
+    }
+    if !add_user(text, lives, user) {
+        text.put(", which has ended");
+    }
+}
+
+// Adds the number of a process, and its name unless another process has its number now. Whether it lives.
+fn add_user(text: &mut Text, lives: &Lives, user: User) -> bool {
+    let process = user.process.index();
+    if user.is_past {
+        text.numbered("an earlier process ", process as u64);
+        return false;
+    }
+    lives.add_who(text, process);
+    lives.life(process).doing.lives()
 }

@@ -8,10 +8,13 @@
 //! | [`Story::event`] | an event that printed something, or may have changed what a process does |
 //! | [`Story::quiet`] | events that did neither |
 //! | [`Story::detail`] | more is known of the last trap |
+//! | [`Story::panic`] | the kernel panicked in this call |
+//! | [`Story::unsent`] | a byte that the console hasn't sent |
 //! | [`Story::tell`] | tells the run, once it has ended |
 //! | [`Story::add_who`] | the number and the name of a process |
 //!
-//! No call has a contract: each is safe and returns. If memory runs out, the text that is told isn't whole. What is told is tested.
+//! What calls and replies say of semaphores is kept as `printed_runs` defines it: `knows` of [`Story::new`] and [`Story::event`]. The other calls
+//! have no contract: each is safe and returns. If memory runs out, the text that is told isn't whole. What is told is tested.
 #![tactic(auto)]
 
 mod circles;

@@ -12,8 +12,6 @@ pub(crate) struct Life {
     pub(crate) since: u64,
     /// The ticks at that event.
     pub(crate) tick: u32,
-    /// The process that took the semaphore last for which it waits.
-    pub(crate) taker: Option<u32>,
     /// Whether it ever ran.
     pub(crate) has_run: bool,
 }
@@ -23,7 +21,6 @@ const NOBODY: Life = Life {
     doing: ABSENT,
     since: 0,
     tick: 0,
-    taker: None,
     has_run: false,
 };
 
@@ -79,7 +76,6 @@ impl Lives {
                 doing,
                 since: number,
                 tick,
-                taker: None,
                 has_run: has_run || matches!(doing.state, State::Current),
             };
         }
@@ -90,15 +86,6 @@ impl Lives {
         let made = made_as(self.alloc, tables, u32::try_from(p).unwrap_or(0));
         if let Some(place) = self.names.get_mut(p) {
             *place = made.name;
-        }
-    }
-
-    /// Notes who took the semaphore last for which a process waits, if nothing was noted since it waits.
-    pub(crate) fn note_taker(&mut self, p: usize, taker: Option<u32>) {
-        if let Some(place) = self.lives.get_mut(p) {
-            if place.taker.is_none() {
-                place.taker = taker;
-            }
         }
     }
 

@@ -1,5 +1,10 @@
 //! What is kept of a run while its events are taken, and the text that tells it.
 
+ghost use Rattle.std.specs.Prelude.{◌≡◌, [], List};
+ghost use Rattle.printed_runs.specs.Semaphores.{Knows};
+ghost use Rattle.printed_runs.specs.declared.notes.Note.{Note};
+ghost use Rattle.run_story.specs.Said.{said_by};
+
 use crate::circles::add_circles;
 use crate::console::Stream;
 use crate::endings::add_ending;
@@ -21,10 +26,13 @@ pub struct Story {
     /// What was typed, and what the console sent.
     typed: Stream,
     sent: Stream,
+    /// What the console hasn't sent, and how many bytes that is.
+    unsent: Stream,
+    left: u64,
     /// The traps so far, in words.
     traps: Text,
-    /// The lines of the last event that printed something.
-    lines: Text,
+    /// The call in which the kernel panicked, if it did.
+    panicked: Text,
 }
 
 impl Drop for Story {
@@ -37,15 +45,19 @@ impl Drop for Story {
             ticks: _ticks,
             typed: _typed,
             sent: _sent,
+            unsent: _unsent,
+            left: _left,
             traps: _traps,
-            lines: _lines,
+            panicked: _panicked,
         } = self;
     }
 }
 
 impl Story {
     /// Of no event.
-    pub fn new(alloc: Global) -> Story {
+    pub fn new(alloc: Global) -> Story
+        ensures knows { Knows [] result.reader.usages }
+    {
         Story {
             alloc,
             reader: Reader::new(),
@@ -54,13 +66,17 @@ impl Story {
             ticks: 0,
             typed: Stream::new(alloc),
             sent: Stream::new(alloc),
+            unsent: Stream::new(alloc),
+            left: 0,
             traps: Text::new(alloc),
-            lines: Text::new(alloc),
+            panicked: Text::new(alloc),
         }
     }
 
     /// The run starts with these tables.
-    pub fn begin(&mut self, tables: &str) {
+    pub fn begin(&mut self, tables: &str)
+        ensures reader { self.new.reader ≡ self.old.reader }
+    {
         self.change(tables);
     }
 
@@ -75,24 +91,19 @@ impl Story {
     }
 
     /// So many events were taken that changed nothing that is told.
-    pub fn quiet(&mut self, count: u64) {
+    pub fn quiet(&mut self, count: u64)
+        ensures reader { self.new.reader ≡ self.old.reader }
+    {
         self.events = self.events.saturating_add(count);
     }
 
     /// An event was taken, which printed these lines and left these tables.
-    pub fn event(&mut self, event: Event, lines: &str, tables: &str) {
+    pub fn event(&mut self, event: Event, lines: &str, tables: &str)
+        ensures knows { (said : List Note) → Knows said self.old.reader.usages → Knows (said_by event lines.now said) self.new.reader.usages }
+    {
+        note(&mut self.reader, event, lines);
         self.quiet(1);
-        if let Event::Key(byte) = event {
-            self.typed.add(byte);
-        }
-        if !matches!(event, Event::Dump) {
-            self.reader.note(lines);
-            self.sent.add_sent(lines);
-            self.add_trap(lines);
-        }
-        if !lines.is_empty() {
-            self.lines = Text::of(self.alloc, lines);
-        }
+        self.add(event, lines);
         self.change(tables);
     }
 
@@ -106,13 +117,24 @@ impl Story {
         self.traps.note(text.is_whole());
     }
 
+    /// The kernel panicked in this call, as a transcript has it.
+    pub fn panic(&mut self, call: &str) {
+        self.panicked = Text::of(self.alloc, call);
+    }
+
+    /// The console hasn't sent a byte more.
+    pub fn unsent(&mut self, byte: u8) {
+        self.unsent.add(byte);
+        self.left = self.left.saturating_add(1);
+    }
+
     /// Tells the run, if it ended so.
     pub fn tell(&self, text: &mut Text, end: End) {
-        add_ending(text, end, self.events, self.ticks, self.lines.as_str());
-        text.note(self.lines.is_whole() && self.lives.is_whole);
+        add_ending(text, end, self.events, self.ticks, &self.panicked);
+        text.note(self.lives.is_whole);
         text.add(&self.traps);
         let mut left = Text::new(self.alloc);
-        add_left(&mut left, &self.lives, self.ticks);
+        add_left(&mut left, &self.lives, &self.reader, self.ticks);
         if !left.is_empty() {
             text.put("Left:\n");
             text.add(&left);
@@ -120,25 +142,64 @@ impl Story {
         if is_stuck(&self.lives) {
             text.put("Nobody can go on: each waits for another process.\n");
         }
-        add_circles(text, &self.lives);
+        add_circles(text, &self.lives, &self.reader);
         self.sent.tell(text, "The console sent:\n");
+        self.add_unsent(text);
         self.typed.tell(text, "Typed:\n");
     }
 
-    // Notes what the processes do.
-    fn change(&mut self, tables: &str) {
-        let shown: Shown = self.reader.read(tables);
-        self.ticks = shown.ticks;
-        self.lives.change(self.events, &shown, tables);
-        for (p, doing) in shown.doings.iter().enumerate() {
-            self.lives.note_taker(p, self.reader.taker(*doing));
+    // Tells what the console hasn't sent, if there is something.
+    fn add_unsent(&self, text: &mut Text) {
+        let mut head = Text::new(self.alloc);
+        head.numbered("The console hasn't sent ", self.left);
+        head.put(if self.left == 1 {
+            " byte:\n"
+        } else {
+            " bytes:\n"
+        });
+        text.note(head.is_whole());
+        self.unsent.tell(text, head.as_str());
+    }
+
+    // Notes what was typed or sent, and a trap.
+    fn add(&mut self, event: Event, lines: &str)
+        ensures reader { self.new.reader ≡ self.old.reader }
+    {
+        match event {
+            Event::Dump => {}
+            Event::Key(byte) => self.typed.add_typed(byte),
+            _ => {
+                self.sent.add_sent(lines);
+                self.add_trap(lines);
+            }
         }
     }
 
+    // Notes what the processes do.
+    fn change(&mut self, tables: &str)
+        ensures reader { self.new.reader ≡ self.old.reader }
+    {
+        let shown: Shown = self.reader.read(tables);
+        self.ticks = shown.ticks;
+        self.lives.change(self.events, &shown, tables);
+    }
+
     // Tells of a trap, if the lines of an event do.
-    fn add_trap(&mut self, lines: &str) {
+    fn add_trap(&mut self, lines: &str)
+        ensures reader { self.new.reader ≡ self.old.reader }
+    {
         if let Some(rest) = lines.lines().next().unwrap_or("").strip_prefix("trap ") {
             add_trap(&mut self.traps, self.events, &self.lives, rest);
         }
+    }
+}
+
+// Notes what an event says of calls.
+fn note(reader: &mut Reader, event: Event, lines: &str)
+    ensures knows { (said : List Note) → Knows said reader.old.usages → Knows (said_by event lines.now said) reader.new.usages }
+{
+    match event {
+        Event::Dump => {}
+        _ => reader.note(lines),
     }
 }

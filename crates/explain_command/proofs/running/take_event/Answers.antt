@@ -17,4 +17,18 @@ returns-clause-inputs c =
           subst (λ (r : Replayed). HasInputs a.disks a.files a.events r) (sym w.replay-is)
           (record { same_disks = refl; same_files = refl; same_events = refl })
     ] in
-    inputs_again a b c.take.new.replay first c.take.ensures.inputs
+    inputs_again a b c.happen.new.replay first c.in_ok-shown.ensures.inputs
+
+pub returns-in_err-tables-clause-inputs : goal.returns-in_err-tables-clause-inputs
+returns-in_err-tables-clause-inputs c =
+    let a = c.args.replay.now in
+    let b = c.else-not-is_listed.replay in
+    let first : HasInputs a.disks a.files a.events b =
+    elim c.else-not-is_listed.branch [
+      | else-not-is_listed-via-then-not-is_listed+else-take_steps-eq1 w ↦
+          subst (λ (r : Replayed). HasInputs a.disks a.files a.events r) (sym w.replay-is) w.take_steps.ensures.inputs
+      | else-not-is_listed-via-else-not-is_listed w ↦
+          subst (λ (r : Replayed). HasInputs a.disks a.files a.events r) (sym w.replay-is)
+          (record { same_disks = refl; same_files = refl; same_events = refl })
+    ] in
+    inputs_again a b c.happen.new.replay first c.in_ok-shown.ensures.inputs

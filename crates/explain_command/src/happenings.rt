@@ -1,0 +1,54 @@
+//! An event that is taken, with what was seen ahead of it and what it changed.
+
+ghost use Rattle.std.specs.Prelude.{◌≡◌, ◌<◌, false, IfOk};
+ghost use Rattle.explain_command.specs.Happenings.{IsShown};
+ghost use Rattle.replayed_run.specs.Replayed.{HasInputs, is_at_end};
+
+use crate::changes::{Changes, changes_of};
+use crate::sights::{Sight, look};
+use host_port::HostFault;
+use replayed_run::{Replay, Taken};
+
+/// What is shown of an event that was taken.
+#[derive(Drop)]
+pub(crate) struct Happening {
+    /// What was seen ahead of it.
+    pub(crate) seen: Sight,
+    /// What a step changed.
+    pub(crate) changes: Changes,
+    /// What it printed, and what it means for the run.
+    pub(crate) taken: Taken,
+}
+
+/// Takes the event that comes next, and looks ahead of it.
+///
+/// # Errors
+/// As [`Replay::take`] says.
+pub(crate) fn happen(replay: &mut Replay) -> Result<Happening, HostFault>
+    requires goes_on { is_at_end replay.old ≡ false }
+    ensures shown { IfOk result (λ shown. IsShown replay.old replay.new shown) }
+    ensures further { IfOk result (λ _. replay.old.taken < replay.new.taken) }
+    ensures inputs { HasInputs replay.old.disks replay.old.files replay.old.events replay.new }
+{
+    let seen = look(replay);
+    let taken = take(replay)?;
+    let changes = changes_of(replay, &seen);
+    Ok(Happening {
+        seen,
+        changes,
+        taken,
+    })
+}
+
+// Takes the event that comes next.
+fn take(replay: &mut Replay) -> Result<Taken, HostFault>
+    requires goes_on { is_at_end replay.old ≡ false }
+    ensures further { IfOk result (λ _. replay.old.taken < replay.new.taken) }
+    ensures inputs { HasInputs replay.old.disks replay.old.files replay.old.events replay.new }
+{
+    match replay.take() {
+        Ok(Some(taken)) => Ok(taken),
+        Ok(None) => unreachable!(),
+        Err(fault) => Err(HostFault::from(fault)),
+    }
+}
