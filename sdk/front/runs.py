@@ -92,9 +92,9 @@ class Tables:
         return bool(self.left()) and waits and self.is_sent()
 
 
-def transcript(inputs, command="run", more=()):
+def transcript(inputs):
     """The lines of a run as they come. Refused as the program refuses its input."""
-    words = [program(), command, *more, *inputs.words()]
+    words = [program(), "run", *inputs.words()]
     process = subprocess.Popen(words, stdin=subprocess.DEVNULL, stdout=subprocess.PIPE, stderr=subprocess.PIPE, text=True, errors="replace")
     try:
         yield from (line.rstrip("\n") for line in process.stdout)
@@ -167,7 +167,8 @@ def settled(inputs, lines, most, on_text=ignore):
     the schedule is left with the lines and those rounds."""
     counts = list(looks_within(most))
     lay(inputs.schedule, [*lines, *(line for count in counts for line in (f"round {count}", "dump"))])
-    run = followed(inputs, on_text, lambda run: run.tables.is_stuck())
-    run.rounds = sum(counts[:run.looks])
+    before = [line.split() for line in lines].count(["dump"])
+    run = followed(inputs, on_text, lambda run: run.looks > before and run.tables.is_stuck())
+    run.rounds = sum(counts[:max(0, run.looks - before)])
     lay(inputs.schedule, [*lines, *([f"round {run.rounds}"] if run.rounds else [])])
     return run
