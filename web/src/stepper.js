@@ -15,7 +15,7 @@ import { excerpt, is_in_call, place_at, process_table, queue_view, registers_at 
 import { LIMIT, load_stretch, stretch_of } from "./runs.js";
 import { run_at, schedule_to } from "./schedules.js";
 import { steps_of } from "./steps.js";
-import { event_words, happenings, name_of, next_words } from "./told.js";
+import { continued_call, event_words, happenings, name_of, next_words } from "./told.js";
 import { bytes_of, count, decimal, last_at_most, utf8 } from "./text.js";
 
 // of how many processes registers are fetched, how many events around one, and over how many steps are listed
@@ -135,7 +135,7 @@ function lay_around(node, earlier, later) {
 export function mark_lines(follows = false) {
 	const { ran, at, editors } = page;
 	if (!ran?.states || ran.is_stale) return;
-	const t = state(ran, at), step = ran.steps.get(at + 1), done = run_at(ran.runs, at)?.kind === "step" && ran.steps.get(at);
+	const t = state(ran, at), step = ran.steps.get(at + 1), done = run_at(ran.runs, at)?.kind === "step" && !continued_call(ran, at) && ran.steps.get(at);
 	const pc = t.current === 0 ? undefined : registers_at(at, t.current)?.[PC] ?? (step?.process === t.current ? step.pc : undefined);
 	const next = place_of(ran, pc, is_in_call(t.current)), last = done ? place_of(ran, done.pc) : null, tags = tags_of(t);
 	if (follows && next && page.file < page.tabs.length - 1 && editors.has(next.key) && choose_key(next.key)) return;

@@ -18,6 +18,12 @@ export function name_of(run, n, number) {
 }
 export const call_at = (run, n, number) => run.calls.findLast((one) => one.process === number && one.since <= n && n < one.until);
 
+// The call in which a process goes on in the event n: one that waited has what is left of it in a step that carries out no instruction.
+export function continued_call(run, n) {
+	const { current } = before(run, n);
+	return n > run.first && run_at(run.runs, n)?.kind === "step" && current !== 0 ? call_at(run, n - 1, current) : undefined;
+}
+
 // What the event n is.
 export function event_words(run, n) {
 	if (n === 0) return "The beginning: the programs are loaded";
@@ -37,17 +43,15 @@ function kind_words(run, n, of, t, old) {
 	}
 }
 function step_words(run, n, old) {
-	const name = name_of(run, n, old.current), lines = lines_at(run, n), step = run.steps.get(n);
-	// a process that waited has its answer in a step of its own, which carries out nothing
-	if (lines.some((line) => line.startsWith(`ret ${old.current} `))
-		&& !lines.some((line) => line.startsWith("call "))) return `${name} goes on in its call`;
+	const name = name_of(run, n, old.current), step = run.steps.get(n), call = continued_call(run, n);
+	if (call) return `${name} goes on in its call ${call.name}`;
 	return `${name} ${old.current === 0 ? "idles" : `executes ${step ? instruction_words(run, step) : "an instruction"}`}`;
 }
 
 // What the event n printed and changed, a sentence each.
 export function happenings(run, n) {
 	const said = line_words(run, n), step = run.steps.get(n), is_step = run_at(run.runs, n)?.kind === "step" && before(run, n).current !== 0;
-	if (said.length || !step || !is_step) return said;
+	if (said.length || !step || !is_step || continued_call(run, n)) return said;
 	return [step.effect ? effect_words(step.effect) : "no register has a new value"];
 }
 function line_words(run, n) {
