@@ -33,6 +33,8 @@ FILES = {
 }
 # A disk of this many blocks, without files, is made beside them. Seven blocks of it are left for data.
 BLOCKS = "14"
+# What the commands beside `run` say after that of a line of a schedule.
+IN_WORDS = "line 2 of the schedule isn't one of its forms, or asks for too many events; a comment has a line of its own\n"
 
 # the arguments, the exit status, standard error, and standard output if something is printed there
 ROWS = [
@@ -69,9 +71,9 @@ ROWS = [
     (["check", "--schedule", "four", "--disk0", "short", "--trace", "four", "image"], 6, "xinu: disk 0 block 0 rule 0\n"),
     (["check", "--schedule", "four", "--trace", "four", "whole"], 8, "xinu: no room for image 1\n"),
     (["check", "--schedule", "four", "--trace", "four", "image"], 10, "", b"no\n"),
-    (["timeline", "--schedule", "none", "image"], 5, "xinu: schedule line 2\n"),
-    (["races", "--preemptions", "1", "--within", "1", "--schedule", "none", "image"], 5, "xinu: schedule line 2\n"),
-    (["gdb", "--schedule", "none", "image"], 5, "xinu: schedule line 2\n"),
+    (["timeline", "--schedule", "none", "image"], 5, "xinu: schedule line 2\n" + IN_WORDS),
+    (["races", "--preemptions", "1", "--within", "1", "--schedule", "none", "image"], 5, "xinu: schedule line 2\n" + IN_WORDS),
+    (["gdb", "--schedule", "none", "image"], 5, "xinu: schedule line 2\n" + IN_WORDS),
     (["explain", "--schedule", "four", "short"], 4, "xinu: image 1 fault 1\nimage 1: the file is shorter than a header\n"),
     (["explained", "--schedule", "four", "short"], 2, "xinu: usage\n"),
 ]
