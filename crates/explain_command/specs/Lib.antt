@@ -1,4 +1,5 @@
 pub mod Changes
 pub mod Happenings
+pub mod Reasons
 pub mod Sights
 pub mod Traces

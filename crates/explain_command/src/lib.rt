@@ -21,6 +21,7 @@ mod faults;
 mod happenings;
 mod listing;
 mod places;
+mod reasons;
 mod running;
 mod sights;
 mod steps;

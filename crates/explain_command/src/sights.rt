@@ -13,7 +13,7 @@ use rv_hart::Hart;
 use xinu_base::{Call, Pid};
 
 /// What the current process does in a step.
-#[derive(Clone, Copy, PartialEq, Eq)]
+#[derive(Clone, Copy)]
 pub(crate) enum Deed {
     /// Nothing: it is the null process.
     Nothing,

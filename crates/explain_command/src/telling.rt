@@ -6,9 +6,10 @@ use crate::callers::add_callers;
 use crate::happenings::Happening;
 use crate::listing::{add_changes, name_of};
 use crate::places::shown;
+use crate::reasons::add_reason;
 use crate::sights::Sight;
 use crate::steps::{add_step, call_line};
-use crate::traps::add_trap;
+use crate::traps::{add_trap, add_trap_place};
 use crate::words::Listed;
 use printed_runs::Text;
 use replayed_run::Replay;
@@ -66,6 +67,8 @@ impl Telling {
     /// Tells where the process was that was trapped in the last event.
     pub(crate) fn trap(&mut self, replay: &Replay, seen: &Sight) {
         let mut text = Text::new(self.alloc);
+        add_trap_place(&mut text, seen, replay.files());
+        add_reason(&mut text, seen, replay.state(), &self.story);
         add_trap(&mut text, seen, replay.files());
         add_callers(&mut text, replay.state(), seen, replay.files());
         self.story.detail(&text);

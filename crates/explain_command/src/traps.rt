@@ -5,10 +5,14 @@ use crate::sights::{Sight, place_line, register_line};
 use printed_runs::Text;
 use rv_disasm::disassembled;
 
-/// Adds the lines that tell where a process was that is trapped in its next step. The images were read from these files.
-pub(crate) fn add_trap(text: &mut Text, seen: &Sight, files: &[Vec<u8>]) {
+/// Adds the line that tells where a process was that is trapped in its next step. The images were read from these files.
+pub(crate) fn add_trap_place(text: &mut Text, seen: &Sight, files: &[Vec<u8>]) {
     add_place(text, seen, files);
     text.put("\n");
+}
+
+/// Adds the lines that tell where its function returns to, and its registers.
+pub(crate) fn add_trap(text: &mut Text, seen: &Sight, files: &[Vec<u8>]) {
     let words = "its function returns to ";
     add_function(text, words, files, seen.hart.regs[1]);
     if !text.as_str().ends_with("\n") {

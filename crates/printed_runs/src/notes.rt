@@ -12,7 +12,7 @@ use text_lines::first_token;
 use xinu_base::{Pid, Sem};
 
 /// What a process asks for by a call, as far as it is told.
-#[derive(Clone, Copy, PartialEq, Eq)]
+#[derive(Clone, Copy)]
 pub enum Asked {
     /// Something that isn't told, or nothing yet.
     Other,
@@ -35,7 +35,7 @@ pub enum Asked {
 }
 
 /// What a line says.
-#[derive(Clone, Copy, PartialEq, Eq)]
+#[derive(Clone, Copy)]
 pub enum Note {
     /// Nothing that is told.
     Other,

@@ -9,7 +9,7 @@ use crate::notes::{Asked, Note};
 use xinu_base::{Pid, Sem};
 
 /// A process that used a semaphore.
-#[derive(Clone, Copy, PartialEq, Eq)]
+#[derive(Clone, Copy)]
 pub struct User {
     /// Its number.
     pub process: Pid,
@@ -18,7 +18,7 @@ pub struct User {
 }
 
 /// How a semaphore was used since it was made.
-#[derive(Clone, Copy, PartialEq, Eq)]
+#[derive(Clone, Copy)]
 pub struct Usage {
     /// Who took it last: whose `wait` was answered 0.
     pub taker: Option<User>,

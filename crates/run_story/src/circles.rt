@@ -1,21 +1,43 @@
 //! Processes that wait for each other.
 
+ghost use Rattle.std.specs.Prelude.{◌≡◌, List, IfSome};
+ghost use Rattle.printed_runs.specs.Semaphores.{Knows};
+ghost use Rattle.printed_runs.specs.declared.notes.Note.{Note};
+ghost use Rattle.run_story.specs.Holders.{Holds, IsHolder};
+
 use crate::lives::Lives;
-use printed_runs::{PROCESSES, Reader, Text};
+use printed_runs::{Doing, PROCESSES, Reader, Text, Usage, User};
 
 /// The process that holds the lock for which a process waits, if that process still lives and can't go on.
 fn next(lives: &Lives, reader: &Reader, p: usize) -> Option<usize> {
-    let usage = reader.usage(lives.life(p).doing)?;
-    if !usage.is_lock || !usage.is_held {
-        return None;
-    }
-    let taker = usage.taker?;
-    let process = taker.process.index();
+    let holder = holder(reader, lives.life(p).doing)?;
+    let process = holder.process.index();
     let other = lives.life(process).doing;
-    if taker.is_past || !other.lives() || other.is_ready() {
+    if holder.is_past || !other.lives() || other.is_ready() {
         return None;
     }
     Some(process)
+}
+
+/// Who holds the lock for which a process waits, if it waits for one that is held.
+fn holder(reader: &Reader, doing: Doing) -> Option<User>
+    ensures held { (said : List Note) → Knows said reader.now.usages → IfSome result (λ user. IsHolder said doing.number user) }
+{
+    match reader.usage(doing) {
+        Some(usage) => holder_in(&usage),
+        None => None,
+    }
+}
+
+/// Who holds a lock, if it is one and is held.
+fn holder_in(usage: &Usage) -> Option<User>
+    ensures held { IfSome result (λ user. Holds usage.now user) }
+{
+    if usage.is_lock && usage.is_held {
+        usage.taker
+    } else {
+        None
+    }
 }
 
 /// Whether a process is the lowest of a circle: each waits for a lock that the next one holds.
