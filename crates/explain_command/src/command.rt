@@ -3,14 +3,18 @@
 ghost use Rattle.std.specs.Prelude.{◌≡◌, ◌≤◌, false, length, map};
 ghost use Rattle.run_inputs.specs.InputFaults.{have_fault};
 
-use crate::faults::meaning;
 use crate::running::tell;
 use crate::traces::tell_mistake;
 use crate::words::{Listed, read_words};
 use host_port::{Channel, Host};
+use refusal_words::tell_meaning;
 use replayed_run::Replay;
-use run_inputs::{Inputs, Refusal, fetch_run, refuse};
+use run_inputs::{Inputs, Refusal, fetch_run};
 use std::alloc::Global;
+
+/// The words of the command.
+const USAGE: &str =
+    "[--steps A..B | --trace FILE] --schedule FILE [--disk0 FILE] [--disk1 FILE] IMAGE ..";
 
 /// Tells the run that the arguments after the program's name ask for: sends the text on Out, and answers the exit status.
 ///
@@ -20,13 +24,7 @@ use std::alloc::Global;
 pub fn explain<H: Host>(alloc: Global, args: &[String], host: &mut H) -> u8 {
     match carry_out(alloc, args, host) {
         Ok(status) => status,
-        Err(refusal) => {
-            let status = refuse(refusal, host);
-            if let Ok(words) = meaning(alloc, refusal).whole() {
-                let _ = host.emit(Channel::Fault, words.as_bytes());
-            }
-            status
-        }
+        Err(refusal) => tell_meaning(alloc, refusal, USAGE, host),
     }
 }
 

@@ -17,7 +17,6 @@
 mod callers;
 mod changes;
 mod command;
-mod faults;
 mod happenings;
 mod listing;
 mod places;
