@@ -8,8 +8,24 @@ FORM = "{:<{width}} {:<15} {:>6} {:>8} {:>7}  {}"
 COLUMNS = ("student", "lab", "given", "further", "points", "what is wrong")
 
 
-class Table:
-    """A line for each submission, as soon as it is graded."""
+def columns_of(student, lab, result):
+    """The columns of a submission."""
+    return student, lab or "-", result.given, result.further, result.points, result.wrong or "done"
+
+
+class Report:
+    """What every report is told: each submission, as soon as it is graded, and that there is no further one."""
+
+    def add(self, student, lab, result):
+        """Adds a submission."""
+        raise NotImplementedError
+
+    def end(self):
+        """Nothing comes after the last submission."""
+
+
+class Table(Report):
+    """A line for each submission."""
 
     def __init__(self, words, names):
         self.width = max(map(len, [*names, COLUMNS[0]]))
@@ -18,17 +34,13 @@ class Table:
 
     def add(self, student, lab, result):
         """Adds a submission."""
-        columns = (student, lab or "-", result.given, result.further, result.points, result.wrong or "done")
-        print(FORM.format(*columns, width=self.width), flush=True)
-
-    def end(self):
-        """Nothing comes after the last line."""
+        print(FORM.format(*columns_of(student, lab, result), width=self.width), flush=True)
 
 
-class Json(Table):
-    """An object on a line for each submission, as soon as it is graded."""
+class Json(Report):
+    """An object on a line for each submission."""
 
-    def __init__(self, words, names):
+    def __init__(self, words, _names):
         self.number, self.further = words.number, words.further
 
     def add(self, student, lab, result):
@@ -37,23 +49,23 @@ class Json(Table):
         print(json.dumps(told), flush=True)
 
 
-class Csv(Table):
+class Csv(Report):
     """A line of values for each submission, below one of their names."""
 
-    def __init__(self, words, names):
+    def __init__(self, _words, _names):
         self.out = csv.writer(sys.stdout, lineterminator="\n")
         self.out.writerow(COLUMNS)
 
     def add(self, student, lab, result):
         """Adds a submission."""
-        self.out.writerow((student, lab or "-", result.given, result.further, result.points, result.wrong or "done"))
+        self.out.writerow(columns_of(student, lab, result))
         sys.stdout.flush()
 
 
-class Gradescope(Table):
+class Gradescope(Report):
     """The object that Gradescope reads from `results.json`: the labs of one student, each row as a test."""
 
-    def __init__(self, words, names):
+    def __init__(self, words, _names):
         self.tests, self.said = [], [f"number {words.number}"]
 
     def add(self, student, lab, result):

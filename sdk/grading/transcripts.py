@@ -38,6 +38,7 @@ def grade_texts(lab, folder, place, words):
     wrong = [f"no run prints {', '.join(refused)}"] if refused else []
     wrong += [f"other `file` lines than that kernel's in {', '.join(replaced)}"] if replaced else []
     share = round(100 / len(names), 2)
-    rows = [Row(f"no run prints {name}, or its `file` lines are others", name not in refused + replaced, 0, 0 if name in refused + replaced else share, share)
-            for name in names]
+    are_wrong = [name in refused + replaced for name in names]
+    rows = [Row(f"no run prints {name}, or its `file` lines are others", not is_wrong, 0, 0 if is_wrong else share, share)
+            for name, is_wrong in zip(names, are_wrong)]
     return Result(f"{right}/{len(names)}", "-", 100 * right // len(names), "; ".join(wrong) or None, 0 if wrong else None, rows)
