@@ -15,6 +15,8 @@ COMMANDS = {
     "term": ("types at the running program", ["term shell.c", "term --keep typed.txt shell.c"]),
     "gdb": ("starts gdb on the run, forward and backward", ["gdb crash.c"]),
     "races": ("tries a preemption at every place, and tells the outcomes", ["races counter.c", "races --preemptions 2 --within 45 order.c"]),
+    "prove": ("proves that programs keep the rule of a lock on every schedule",
+              ["prove first.s second.s", "prove --lock 4 --word counter --rule rounds first.s"]),
     "picture": ("draws the run: who ran when, who waited for what", ["picture hello.c", "picture --out run.svg hello.c"]),
     "step": ("opens the page of this run in a browser, to step through it", ["step hello.s"]),
     "check": ("says whether a text is the transcript of a run", ["check --trace mine.txt --schedule schedule.txt hello.s"]),
@@ -123,6 +125,15 @@ def add_of_run(commands):
     parsers["check"].add_argument("--trace", required=True, metavar="FILE", help="the text")
 
 
+def add_prove(parser):
+    """Adds what `prove` has: programs, and what is to be proved of them."""
+    parser.add_argument("program", nargs="+", metavar="PROGRAM", help="a program in assembler, an image or an ELF file; up to eight")
+    parser.add_argument("--lock", type=number_between(4, 127), metavar="N", help="the semaphore that is the lock")
+    parser.add_argument("--word", metavar="LABEL", help="the word that it guards, by its label or its address")
+    parser.add_argument("--rule", metavar="RULE", help="what the word is by how often the lock was given back: rounds, 3 * rounds, 100 - rounds")
+    parser.set_defaults(libc=False, opt="2", schedule=None, rounds=ROUNDS, disk0=None, disk1=None)
+
+
 def add_makers(commands):
     """Adds what the commands have that make files."""
     commands["new"].add_argument("name", metavar="NAME")
@@ -164,5 +175,6 @@ def parser():
         made[name] = commands.add_parser(name, prog=f"xinu {name}", epilog=epilog, formatter_class=plain, allow_abbrev=False)
         made[name].examples = examples(purpose, lines)
     add_of_run(made)
+    add_prove(made["prove"])
     add_makers(made)
     return whole, made
