@@ -46,7 +46,7 @@ static void load(const char *path, struct process *p)
     p->stack_size = word_of(bytes + 24) < 400 ? 400 : word_of(bytes + 24);
 }
 
-/* give_stack - a process gets the highest part of the heap below this address, and begins to run on it */
+/* give_stack - a process gets its stack, the highest part of the heap below this address; the answer is where that begins */
 static uint32_t give_stack(const char *path, struct process *p, uint32_t below)
 {
     if (p->stack_size > below - heap_low || rounded(p->stack_size) > below - heap_low)
@@ -70,7 +70,8 @@ void boot(int count, char *const paths[])
     }
     for (int k = 0; k < count; k++)
         below = give_stack(paths[k], &proctab[k + 1], below);
-    for (prcount = 0; prcount < count; prcount++)
-        ready(prcount + 1);
+    for (int pid = 1; pid <= count; pid++)
+        ready(pid);
+    prcount = count;
     resched();
 }
