@@ -3,3 +3,4 @@ pub mod Happenings
 pub mod Reasons
 pub mod Sights
 pub mod Traces
+pub mod Whereabouts

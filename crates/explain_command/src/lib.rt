@@ -11,7 +11,8 @@
 //!
 //! The run is a `Replay`. What is shown of an event was seen in the state ahead of it, and what it changed is what the state after it has
 //! otherwise: `shown` of `happen` in `happenings.rt` says so, and traps and the list are told from what it answers. `line` of `register_line`,
-//! `place_line` and `call_line` is of their texts, and `tables` in `running.rt` of the tables from which the story is told.
+//! `place_line` and `call_line` is of their texts, and `tables` in `running.rt` of the tables from which the story is told. Where somebody is who is
+//! left is read off its registers (`hart`, `call` and `place` in `whereabouts.rt`).
 #![tactic(auto)]
 
 mod callers;
@@ -28,6 +29,7 @@ mod telling;
 mod traces;
 mod traps;
 mod unsent;
+mod whereabouts;
 mod words;
 
 pub use command::explain;

@@ -33,7 +33,7 @@ fn tell_run(replay: &mut Replay, telling: &mut Telling) -> Result<String, HostFa
     telling.story.begin(tables(replay)?.lines());
     let end = take_events(replay, telling)?;
     tell_unsent(&mut telling.story, replay.state())?;
-    Ok(telling.text(end)?)
+    Ok(telling.text(replay, end)?)
 }
 
 // Takes the events until the run ends.

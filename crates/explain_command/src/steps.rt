@@ -10,7 +10,7 @@ use crate::traps::add_place;
 use host_port::Line;
 use printed_runs::Text;
 use transcript::render;
-use xinu_base::TranscriptLine;
+use xinu_base::{Call, Pid, TranscriptLine};
 
 /// Adds what a process does in its next step: nothing, which call it goes on in, or its place and the instruction there.
 pub(crate) fn add_step(text: &mut Text, seen: &Sight, files: &[Vec<u8>]) {
@@ -18,7 +18,7 @@ pub(crate) fn add_step(text: &mut Text, seen: &Sight, files: &[Vec<u8>]) {
         Deed::Nothing => text.put(" executes nothing"),
         Deed::GoesOn => {
             text.put(" goes on in ");
-            add_call(text, seen);
+            add_call(text, seen.call);
         }
         Deed::Executes => {
             text.put(", ");
@@ -27,9 +27,9 @@ pub(crate) fn add_step(text: &mut Text, seen: &Sight, files: &[Vec<u8>]) {
     }
 }
 
-// Adds the call of a process, by its name and its arguments.
-fn add_call(text: &mut Text, seen: &Sight) {
-    let line = call_line(seen);
+/// Adds a call, by its name and its arguments.
+pub(crate) fn add_call(text: &mut Text, call: Call) {
+    let line = render(&TranscriptLine::Call(Pid::at(0), call));
     let mut words = shown(line.bytes()).split_whitespace();
     text.put(words.nth(2).unwrap_or(""));
     for word in words {

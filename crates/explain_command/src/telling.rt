@@ -10,12 +10,13 @@ use crate::reasons::add_reason;
 use crate::sights::Sight;
 use crate::steps::{add_step, call_line};
 use crate::traps::{add_trap, add_trap_place};
+use crate::whereabouts::add_whereabouts;
 use crate::words::Listed;
-use printed_runs::Text;
+use printed_runs::{PROCESSES, Text};
 use replayed_run::Replay;
 use run_story::Story;
 use std::alloc::{AllocError, Global};
-use xinu_base::{End, Event};
+use xinu_base::{End, Event, Pid};
 
 /// What is told so far.
 #[derive(Drop)]
@@ -80,15 +81,32 @@ impl Telling {
         self.story.panic(shown(line.bytes()).trim_end());
     }
 
-    /// The list, and the story after it, if the run ended so.
+    /// The list, and the story after it, if the run ended so: of who is left also where it is.
     ///
     /// # Errors
     /// Out of memory, also if it ran out before.
-    pub(crate) fn text(&self, end: End) -> Result<String, AllocError> {
+    pub(crate) fn text(&self, replay: &Replay, end: End) -> Result<String, AllocError> {
         let mut text = Text::new(self.alloc);
         text.add(&self.listing);
-        self.story.tell(&mut text, end);
+        self.story.tell_end(&mut text, end);
+        self.add_left(&mut text, replay);
+        self.story.tell_rest(&mut text);
         text.whole()
+    }
+
+    // Tells of each process that is left but the null process what it does, and where it is.
+    fn add_left(&self, text: &mut Text, replay: &Replay) {
+        let mut is_any = false;
+        for number in 1..PROCESSES {
+            if self.story.is_left(number) {
+                if !is_any {
+                    text.put("Left:\n");
+                }
+                is_any = true;
+                self.story.tell_left(text, number);
+                add_whereabouts(text, replay, Pid::at(number));
+            }
+        }
     }
 }
 

@@ -1,25 +1,21 @@
 //! The processes that are left at a run's end.
 
 use crate::lives::{Life, Lives};
-use printed_runs::{Awaited, Doing, PROCESSES, Reader, Text, User};
+use printed_runs::{Awaited, Doing, Reader, Text, User};
 use xinu_base::State;
 
 /// From how many ticks on it is told that a process is ready and doesn't run.
 const LONG: u32 = 4;
 
-/// Tells of each process that is left besides the null process, at this tick, a line each.
-pub(crate) fn add_left(text: &mut Text, lives: &Lives, reader: &Reader, tick: u32) {
-    for p in 1..PROCESSES {
-        let life = lives.life(p);
-        if life.doing.lives() {
-            text.put("  ");
-            lives.add_who(text, p);
-            add_state(text, life);
-            text.numbered(" since event ", life.since);
-            add_more(text, lives, reader, life, tick);
-            text.put(".\n");
-        }
-    }
+/// Tells of a process that is left, at this tick, in a line.
+pub(crate) fn add_left(text: &mut Text, lives: &Lives, reader: &Reader, process: usize, tick: u32) {
+    let life = lives.life(process);
+    text.put("  ");
+    lives.add_who(text, process);
+    add_state(text, life);
+    text.numbered(" since event ", life.since);
+    add_more(text, lives, reader, life, tick);
+    text.put(".\n");
 }
 
 /// Whether each process that is left waits for another: for a semaphore that processes made, for a message, a buffer or a port, or to be

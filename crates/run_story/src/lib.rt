@@ -1,6 +1,7 @@
 //! A run told in plain English: how it ended, who is left and waits for what, and what the console showed.
 //!
-//! A [`Story`] is told each event with the lines that the machine printed for it and the tables after it. [`Story::tell`] writes the text.
+//! A [`Story`] is told each event with the lines that the machine printed for it and the tables after it. Its text is written in parts, since
+//! its teller knows more of who is left.
 //!
 //! | Call | What it does |
 //! |---|---|
@@ -10,7 +11,9 @@
 //! | [`Story::detail`] | more is known of the last trap |
 //! | [`Story::panic`] | the kernel panicked in this call |
 //! | [`Story::unsent`] | a byte that the console hasn't sent |
-//! | [`Story::tell`] | tells the run, once it has ended |
+//! | [`Story::tell_end`] | tells how the run ended, and its traps |
+//! | [`Story::is_left`], [`Story::tell_left`] | whether a process is left, and what it does |
+//! | [`Story::tell_rest`] | tells whether they can go on, and what the console showed |
 //! | [`Story::add_who`] | the number and the name of a process |
 //!
 //! What calls and replies say of semaphores is kept as `printed_runs` defines it: `knows` of [`Story::new`] and [`Story::event`]. The other calls

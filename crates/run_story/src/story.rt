@@ -128,17 +128,25 @@ impl Story {
         self.left = self.left.saturating_add(1);
     }
 
-    /// Tells the run, if it ended so.
-    pub fn tell(&self, text: &mut Text, end: End) {
+    /// Tells how the run ended, if it ended so, and its traps.
+    pub fn tell_end(&self, text: &mut Text, end: End) {
         add_ending(text, end, self.events, self.ticks, &self.panicked);
         text.note(self.lives.is_whole);
         text.add(&self.traps);
-        let mut left = Text::new(self.alloc);
-        add_left(&mut left, &self.lives, &self.reader, self.ticks);
-        if !left.is_empty() {
-            text.put("Left:\n");
-            text.add(&left);
-        }
+    }
+
+    /// Whether a process is left.
+    pub fn is_left(&self, process: usize) -> bool {
+        self.lives.life(process).doing.lives()
+    }
+
+    /// Tells of a process that is left what it does, in a line.
+    pub fn tell_left(&self, text: &mut Text, process: usize) {
+        add_left(text, &self.lives, &self.reader, process, self.ticks);
+    }
+
+    /// Tells whether those who are left can go on, and what the console showed.
+    pub fn tell_rest(&self, text: &mut Text) {
         if is_stuck(&self.lives) {
             text.put("Nobody can go on: each waits for another process.\n");
         }
