@@ -1,6 +1,5 @@
 """The commands that run programs and tell of it: run, why, picture, check."""
 import os
-import re
 import subprocess
 
 from . import endings
@@ -12,8 +11,6 @@ from .runs import followed, ignore, inputs_of, settled
 from .telling import close_line, put, say
 
 MOST_TRACE = 64 << 20
-# a process that is left, and the event since which it does what it does
-LEFT = re.compile(r"  (\d+) \S.* since event ([1-9]\d*)")
 
 
 def typed_again(words):
@@ -58,26 +55,12 @@ def explained(inputs, more=()):
     return ran.stdout.decode("utf-8", "replace").splitlines()
 
 
-def call_under_way(inputs, line, places):
-    """The place of the call in which a process that is left waits, if the line of the story says since which event."""
-    found = LEFT.match(line)
-    if not found:
-        return None
-    process, event = found.groups()
-    step_of = re.compile(rf"event {event}: {process}[ ,]")
-    steps = [step for step in explained(inputs, ["--steps", f"{event}..{event}"]) if step_of.match(step)]
-    named = [places.lines(addresses) for addresses in map(places.addresses_in, steps)]
-    return next((f"{name}, {place}" if name else place for lines in named for name, place in lines.values()), None)
-
-
 def why(words, programs, folder):
-    """Tells the run in words, each address with its function, file and line, and of who waits the line of the call."""
+    """Tells the run in words, each address with its function, file and line."""
     inputs, _ = schedule_for(words, programs, folder)
-    places = Places(programs)
     more = ["--steps", words.steps] if words.steps else []
-    for line in places.told(explained(inputs, more)):
-        place = call_under_way(inputs, line, places)
-        print(f"{line}  ({place})" if place else line)
+    for line in Places(programs).told(explained(inputs, more)):
+        print(line)
     return 0
 
 
