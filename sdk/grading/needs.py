@@ -1,10 +1,11 @@
 """What grading needs, looked at before the first submission: else everybody would have no points."""
 import os
 
-from front.tools import COMPILER_TOOL, MAKE, missing
+from front.tools import COMPILER_TOOL, MAKE, TOOLCHAIN, missing
 from judge import find_program
 
-from .places import LABS, has
+from .places import LABS, LAYER, LINES, PROGRAMS, has, kind_of
+from .repairs import needs_of_repairs
 
 
 def lacking(labs, further):
@@ -13,10 +14,18 @@ def lacking(labs, further):
         yield "no xinu_run: build it (sdk/build --quick), and put its folder into the PATH or its path into $XINU_RUN"
     if not labs:
         yield f"no lab in {LABS}"
-    are_programs = [lab for lab in labs if has(lab, "lines.txt")]
-    for lab in are_programs:
-        if further and not has(lab, "further.txt"):
+    kinds = set(map(kind_of, labs))
+    for lab in labs:
+        if kind_of(lab) == LINES and further and not has(lab, "further.txt"):
             yield f"no {os.path.join(LABS, lab, 'further.txt')}: grade in the teacher's clone, or with --further 0"
-    for tool in (MAKE, COMPILER_TOOL):
-        if are_programs and not tool.is_there():
+        if kind_of(lab) == PROGRAMS:
+            yield from needs_of_repairs(lab)
+    for tool, needed_by in ((MAKE, {LINES, PROGRAMS, LAYER}), (COMPILER_TOOL, {LINES, PROGRAMS}), (TOOLCHAIN, {LAYER})):
+        if kinds & needed_by and not tool.is_there():
             yield missing(tool)
+
+
+def without_layer(labs):
+    """The labs that can be graded here, and for each that only Rattle's toolchain grades why it can't."""
+    left = [lab for lab in labs if kind_of(lab) != LAYER or TOOLCHAIN.is_there()]
+    return left, [f"{lab} isn't graded: {missing(TOOLCHAIN)}" for lab in labs if lab not in left]

@@ -18,9 +18,9 @@ def trapped(lines):
     return f" (process {traps[0][1]} was trapped: {traps[0][2]})" if traps else ""
 
 
-def built(place, seconds):
-    """Builds a student's program: what is wrong with it, or none."""
-    status, _, said = limited(["make", "-s"], place, seconds)
+def built(place, seconds, *what):
+    """Builds a student's program, or what is named of several: what is wrong with it, or none."""
+    status, _, said = limited(["make", "-s", *what], place, seconds)
     if status == 0:
         return None
     if status is None or "CPU time limit" in said:

@@ -1,0 +1,102 @@
+"""The lab in Rattle: `rt` proves a student's `pool.rt` over the layer, and has to refuse wrong bodies below the same contracts."""
+import os
+import re
+import subprocess
+import tempfile
+
+from .places import LABS
+from .results import Result, Row, nothing
+from .taking import take_files
+
+SECONDS = 1200  # for a check; the first one proves the layer too, for minutes
+WRONG_BODIES = {"give": "        false", "number_of": "    None"}
+ENSURES = re.compile(r"^ +ensures (\w+) \{.*\}$", re.M)
+
+
+class Repository:
+    """The repository that `make start` of the lab makes, for all students: the layer is proved in it once."""
+
+    def __init__(self, lab):
+        self.folder = tempfile.TemporaryDirectory()
+        self.lab, self.place = os.path.join(LABS, lab), os.path.join(self.folder.name, "lab12")
+        subprocess.run(["make", "-s", "-C", self.lab, "start", f"PLACE={self.place}"], check=True, stdout=subprocess.DEVNULL)
+
+    def checked(self, source, only=None):
+        """Whether `rt` proves a source, and what it prints if all was proved; none if the time was over."""
+        pool = os.path.join(self.place, "crates", "pool")
+        with open(os.path.join(pool, "src", "pool.rt"), "w", encoding="utf-8") as file:
+            file.write(source)
+        try:
+            proved = subprocess.run(["rt", "check", *(["--only", only] if only else [])], cwd=pool, timeout=SECONDS, capture_output=True).returncode == 0
+            if not proved or only:
+                return proved, ""
+            ran = subprocess.run(["rt", "run"], cwd=pool, timeout=SECONDS, stdout=subprocess.PIPE, stderr=subprocess.DEVNULL)
+            return proved, ran.stdout.decode("utf-8", "replace")
+        except subprocess.TimeoutExpired:
+            return None, ""
+
+
+REPOSITORIES = {}
+
+
+def repository(lab):
+    """The repository of a lab, made when it is first asked for."""
+    if lab not in REPOSITORIES:
+        REPOSITORIES[lab] = Repository(lab)
+    return REPOSITORIES[lab]
+
+
+def text_of(path):
+    """The text of a file, empty if there is none."""
+    if not os.path.exists(path):
+        return ""
+    with open(path, encoding="utf-8", errors="replace") as file:
+        return file.read()
+
+
+def contract(text, name):
+    """The signature and the clauses of a function, a line each, or none if it isn't there."""
+    found = re.search(rf"^( *)(?:pub\(crate\) )?fn {name}\(.*?^\1\{{$", text, re.M | re.S)
+    return found and [line.strip() for line in found[0].splitlines()[:-1]]
+
+
+def with_body(text, name, body):
+    """The text with another body of a function."""
+    return re.sub(rf"(^( *)(?:pub\(crate\) )?fn {name}\(.*?^\2\{{\n).*?(^\2\}}$)", lambda found: f"{found[1]}{body}\n{found[3]}", text, count=1, flags=re.M | re.S)
+
+
+def changed_contracts(given, text):
+    """The functions whose signature or given clauses aren't there as they were, or that demand more of a caller."""
+    for name in ("new", "take", "give", "number_of"):
+        lines = contract(text, name) or []
+        is_more = any(not ENSURES.match(" " + line) for line in lines if line not in contract(given, name))
+        if is_more or not set(contract(given, name)) <= set(lines):
+            yield name
+
+
+def judged(given, text, wanted, place):
+    """Whether each part of the lab is done, with words for what is wrong."""
+    changed = list(changed_contracts(given, text))
+    yield not changed, f"the contract of {', '.join(changed) or 'a function'} isn't the given one with further clauses"
+    if changed:
+        return
+    proved, printed = place.checked(text)
+    yield bool(proved), "it isn't proved" if proved is not None else f"rt takes more than {SECONDS} s"
+    yield bool(proved) and printed == wanted, "the program prints another text than wanted.txt"
+    for name, body in WRONG_BODIES.items():
+        refused = bool(proved) and place.checked(with_body(text, name, body), name)[0] is False
+        yield refused, f"a wrong body of {name} ({body.strip()}) isn't refused by its contract"
+
+
+def grade_layer(lab, folder, place, _words):
+    """Proves a student's pool, and tries wrong bodies below its contracts."""
+    take_files(folder, place, ("pool.rt",))
+    text = text_of(os.path.join(place, "pool.rt"))
+    if not text:
+        return nothing("there is no pool.rt that can be taken")
+    given, wanted = (text_of(os.path.join(LABS, lab, name)) for name in ("start/pool.rt.txt", "wanted.txt"))
+    total = 3 + len(WRONG_BODIES)
+    rows = [Row(words, held, 0, 100 / total * held, 100 / total) for held, words in judged(given, text, wanted, repository(lab))]
+    held = sum(row.held for row in rows)
+    wrong = next((row.words for row in rows if not row.held), None)
+    return Result(f"{held}/{total}", "-", 100 * held // total, wrong, 0 if wrong else None, rows)
