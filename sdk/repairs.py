@@ -10,7 +10,9 @@ return and a newline, and then words with a number each:
     CALL N                  there are at least N such calls; of those on time and priorities (TIMED) at most N, or none if it isn't said
 
 A process that the program creates has the priority 20. No repair is one that changes when processes run, or that prints the text as it is."""
+import functools
 import json
+import os
 import re
 import struct
 
@@ -33,12 +35,23 @@ class Program:
         self.farther = self.calls.pop("farther", 0)
         self.main = self.calls.pop("main", PRIORITY)
         self.may_be_refused = self.calls.pop("refused", None) is None
+        self.seen = {}  # what `races` found in so many steps of an image: many hand in the same one
 
-    def outcomes(self, schedule, folder, seconds, steps=None):
-        """How many runs `races` made, and what each outcome shows and how it ends."""
-        words = ["--preemptions", str(self.bound[0]), "--within", str(steps or self.bound[1]), "--schedule", schedule, f"{self.name}.elf"]
-        _, table, _ = limited([xinu_run(), "races", *words], folder, seconds)
-        return sum(map(int, re.findall(r"^outcome \d+: (\d+) ", table, re.M))), re.findall(r"^outcome .*\n  (.*)$", table, re.M)
+    def outcomes(self, schedule, folder, seconds, steps):
+        """How many runs `races` made, none if the time was over, and what each outcome shows and how it ends."""
+        with open(os.path.join(folder, f"{self.name}.elf"), "rb") as file:
+            key = loaded(file.read()), steps
+        found = self.seen.get(key) or self.raced(schedule, folder, seconds, steps)
+        if found[0] is not None:
+            self.seen[key] = found
+        return found
+
+    def raced(self, schedule, folder, seconds, steps):
+        """What `races` finds, as `outcomes` says it."""
+        words = ["--preemptions", str(self.bound[0]), "--within", str(steps), "--schedule", schedule, f"{self.name}.elf"]
+        status, table, _ = limited([xinu_run(), "races", *words], folder, seconds)
+        runs = sum(map(int, re.findall(r"^outcome \d+: (\d+) ", table, re.M)))
+        return None if status is None else runs, re.findall(r"^outcome .*\n  (.*)$", table, re.M)
 
     def is_only(self, found):
         """Whether an outcome is the only one, and the one that is wanted."""
@@ -81,6 +94,13 @@ class Program:
         return f'it has the text "{line}" as it is' if re.search(r"\d", line) and line.encode() in image else None
 
 
+def loaded(image):
+    """What is loaded of the bytes of an ELF file, with its notes: two files in which that is equal run equally."""
+    entry, at = struct.unpack_from("<II", image, 24)
+    heads = [struct.unpack_from("<6I", image, at + 32 * k) for k in range(*struct.unpack_from("<H", image, 44))]
+    return entry, tuple((kind, place, size, image[start:start + length]) for kind, start, place, _, length, size in heads if kind in (1, 4))
+
+
 def refused(lines):
     """The first call of a transcript that is refused, or none."""
     calls = {}
@@ -97,7 +117,8 @@ def cells(lines, call):
     return sum(-(-int(line.split()[-1]) // 8) for line in lines if line.startswith("call ") and line.split()[2] == call)
 
 
+@functools.lru_cache(maxsize=None)
 def programs_of(path):
-    """The programs of a table."""
+    """The programs of a table: the same ones each time."""
     with open(path, encoding="utf-8") as file:
         return [Program(line) for line in file if line.strip() and not line.startswith("#")]

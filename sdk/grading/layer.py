@@ -1,4 +1,5 @@
 """The lab in Rattle: `rt` proves a student's `pool.rt` over the layer, and has to refuse wrong bodies below the same contracts."""
+import functools
 import os
 import re
 import subprocess
@@ -36,14 +37,17 @@ class Repository:
             return None, ""
 
 
-REPOSITORIES = {}
+def needs_of_layer():
+    """Why such a lab can't be graded, a reason a line."""
+    layer = os.path.join(os.path.dirname(LABS), "crates", "queue_table")
+    if not os.path.isdir(layer):
+        yield f"no {layer}: grade in a clone"
 
 
+@functools.lru_cache(maxsize=None)
 def repository(lab):
     """The repository of a lab, made when it is first asked for."""
-    if lab not in REPOSITORIES:
-        REPOSITORIES[lab] = Repository(lab)
-    return REPOSITORIES[lab]
+    return Repository(lab)
 
 
 def text_of(path):
@@ -77,7 +81,7 @@ def changed_contracts(given, text):
 def judged(given, text, wanted, place):
     """Whether each part of the lab is done, with words for what is wrong."""
     changed = list(changed_contracts(given, text))
-    yield not changed, f"the contract of {', '.join(changed) or 'a function'} isn't the given one with further clauses"
+    yield not changed, f"the contract of {', '.join(changed) or 'a function'} isn't the given one with further clauses, each on a line"
     if changed:
         return
     proved, printed = place.checked(text)

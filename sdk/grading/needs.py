@@ -4,6 +4,7 @@ import os
 from front.tools import COMPILER_TOOL, MAKE, TOOLCHAIN, missing
 from judge import find_program
 
+from .layer import needs_of_layer
 from .places import LABS, LAYER, LINES, PROGRAMS, has, kind_of
 from .repairs import needs_of_repairs
 
@@ -20,6 +21,8 @@ def lacking(labs, further):
             yield f"no {os.path.join(LABS, lab, 'further.txt')}: grade in the teacher's clone, or with --further 0"
         if kind_of(lab) == PROGRAMS:
             yield from needs_of_repairs(lab)
+        if kind_of(lab) == LAYER:
+            yield from needs_of_layer()
     for tool, needed_by in ((MAKE, {LINES, PROGRAMS, LAYER}), (COMPILER_TOOL, {LINES, PROGRAMS}), (TOOLCHAIN, {LAYER})):
         if kinds & needed_by and not tool.is_there():
             yield missing(tool)

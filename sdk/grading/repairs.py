@@ -25,7 +25,7 @@ def named_lines(path):
 def is_wrong_line(number, ranges):
     """Whether a line is in one of the ranges A-B, or is one of the lines A."""
     bounds = [(word.partition("-")[0], word.rpartition("-")[2]) for word in ranges]
-    return number.isdecimal() and any(int(first) <= int(number) <= int(last) for first, last in bounds)
+    return number.isdecimal() and len(number) < 7 and any(int(first) <= int(number) <= int(last) for first, last in bounds)
 
 
 def naming_fault(name, named, right):
@@ -39,6 +39,8 @@ def naming_fault(name, named, right):
 def races_fault(program, place, seconds, steps):
     """What `races` finds wrong in so many steps, or none."""
     runs, found = program.outcomes("schedule.txt", place, seconds, steps)
+    if runs is None:
+        return f"races takes more than {seconds} s"
     return None if program.is_only(found) else f"{runs} runs of the first {steps} steps have {len(found)} outcomes, or another than the wanted one"
 
 
