@@ -99,5 +99,6 @@ def grade_repairs(lab, folder, place, words):
 
 def needs_of_repairs(lab):
     """Why such a lab can't be graded, a reason a line."""
-    if not has(lab, "solved"):
-        yield f"no {os.path.join(LABS, lab, 'solved')}: grade in the teacher's clone"
+    lines = os.path.join("solved", NAMED)
+    if has(lab, NAMED) and not has(lab, lines):
+        yield f"no {os.path.join(LABS, lab, lines)}: grade in the teacher's clone"
