@@ -28,7 +28,8 @@ class Repository:
         with open(os.path.join(pool, "src", "pool.rt"), "w", encoding="utf-8") as file:
             file.write(source)
         try:
-            proved = subprocess.run(["rt", "check", *(["--only", only] if only else [])], cwd=pool, timeout=SECONDS, capture_output=True).returncode == 0
+            words = ["rt", "check", *(["--only", only] if only else [])]
+            proved = subprocess.run(words, cwd=pool, timeout=SECONDS, capture_output=True).returncode == 0
             if not proved or only:
                 return proved, ""
             ran = subprocess.run(["rt", "run"], cwd=pool, timeout=SECONDS, stdout=subprocess.PIPE, stderr=subprocess.DEVNULL)
@@ -66,7 +67,8 @@ def contract(text, name):
 
 def with_body(text, name, body):
     """The text with another body of a function."""
-    return re.sub(rf"(^( *)(?:pub\(crate\) )?fn {name}\(.*?^\2\{{\n).*?(^\2\}}$)", lambda found: f"{found[1]}{body}\n{found[3]}", text, count=1, flags=re.M | re.S)
+    whole = re.compile(rf"(^( *)(?:pub\(crate\) )?fn {name}\(.*?^\2\{{\n).*?(^\2\}}$)", re.M | re.S)
+    return whole.sub(lambda found: f"{found[1]}{body}\n{found[3]}", text, count=1)
 
 
 def changed_contracts(given, text):

@@ -41,7 +41,7 @@ def races_fault(program, place, seconds, steps):
     runs, found = program.outcomes("schedule.txt", place, seconds, steps)
     if runs is None:
         return f"races takes more than {seconds} s"
-    return None if program.is_only(found) else f"{runs} runs of the first {steps} steps have {len(found)} outcomes, or another than the wanted one"
+    return None if program.is_only(found) else f"{runs} runs, preempted in the first {steps} steps, have {len(found)} outcomes"
 
 
 def program_fault(program, place, seconds):
