@@ -4,24 +4,35 @@ import os
 
 SDK = os.path.dirname(os.path.dirname(os.path.realpath(__file__)))
 LABS = os.path.join(os.path.dirname(SDK), "labs")
+EXERCISES = os.path.join(LABS, "exercises")
 # what a lab is judged by: a table of lines, texts of kernels, a table of programs, or what a proved program prints
 KINDS = LINES, TEXTS, PROGRAMS, LAYER = "lines.txt", "kernel_a.txt", "programs.txt", "wanted.txt"
+EXERCISE = "exercise"  # and the kind of an exercise of the page
+
+
+def folder_of(lab):
+    """The folder of a lab, or of an exercise of the page."""
+    exercise = os.path.join(EXERCISES, lab)
+    return exercise if os.path.isdir(exercise) else os.path.join(LABS, lab)
 
 
 def has(lab, name):
     """Whether a lab has a file."""
-    return os.path.exists(os.path.join(LABS, lab, name))
+    return os.path.exists(os.path.join(folder_of(lab), name))
 
 
 def kind_of(lab):
-    """Which file of a lab says how it is graded, or none."""
+    """Which file of a lab says how it is graded, or none; or that it is an exercise of the page."""
+    if os.path.dirname(folder_of(lab)) == EXERCISES:
+        return EXERCISE
     return next((name for name in KINDS if has(lab, name)), None)
 
 
 def graded_labs():
-    """The labs that are graded, in their order."""
-    names = [os.path.basename(path) for path in glob.glob(os.path.join(LABS, "[0-9]*_*"))]
-    return sorted(filter(kind_of, names), key=lambda name: int(name.partition("_")[0]))
+    """The labs that are graded, in their order, and then the exercises of the page."""
+    for place in (LABS, EXERCISES):
+        names = [os.path.basename(path) for path in glob.glob(os.path.join(place, "[0-9]*_*"))]
+        yield from sorted(filter(kind_of, names), key=lambda name: int(name.partition("_")[0]))
 
 
 def submissions(folder, labs, lab=None):
