@@ -5,8 +5,8 @@ import os
 SDK = os.path.dirname(os.path.dirname(os.path.realpath(__file__)))
 LABS = os.path.join(os.path.dirname(SDK), "labs")
 EXERCISES = os.path.join(LABS, "exercises")
-# what a lab is judged by: a table of lines, texts of kernels, a table of programs, or what a proved program prints
-KINDS = LINES, TEXTS, PROGRAMS, LAYER = "lines.txt", "kernel_a.txt", "programs.txt", "wanted.txt"
+# what a lab is judged by: a table of lines, texts of kernels, a table of programs, what a proved program prints, or what is to be proved
+KINDS = LINES, TEXTS, PROGRAMS, LAYER, PROOFS = "lines.txt", "kernel_a.txt", "programs.txt", "wanted.txt", "proofs.txt"
 EXERCISE = "exercise"  # and the kind of an exercise of the page
 
 

@@ -1,0 +1,11 @@
+# branch.s - adds 1 to the counter again and again, also if it is 0: else a round would be over that added nothing
+
+again:  li   a0, 4
+        sys  wait
+        bne  a0, zero, again    # refused: the lock isn't made yet
+        lw   t0, 1100(zero)
+        addi t0, t0, 1
+        sw   t0, 1100(zero)
+        li   a0, 4
+        sys  signal
+        j    again
