@@ -6,6 +6,7 @@ import { share, work_of, work_of_fragment } from "./links.js";
 import { page } from "./page.js";
 import { lay_panels, show_about } from "./panels.js";
 import { draw, save_picture } from "./picture.js";
+import { fill_claim, forget_claim, prove_all } from "./proof.js";
 import { back_to_base, forget_base, try_all } from "./races.js";
 import { run, stop_all } from "./running.js";
 import { bytes_of } from "./text.js";
@@ -22,6 +23,7 @@ function take(what) {
 	Object.assign(page, { ran: null, file: 0, chosen: null });
 	forget_base();
 	$("outcomes").replaceChildren();
+	forget_claim();
 	show_about();
 	lay_panels();
 	return run();
@@ -55,7 +57,7 @@ function lay_exercises() {
 // What the page is, and what may be believed of it.
 const CLAIMS = [
 	"The transcript, and so each table of a state, is what docs/THEOREM.md of the repository says of the program's output; registers and data"
-		+ " are answers to gdb (docs/DEBUGGING.md). Story, Picture and Races are the output of commands. That Step shows what it was given,"
+		+ " are answers to gdb (docs/DEBUGGING.md). Story, Picture, Races and Proof are the output of commands. That Step shows what it was given,"
 		+ " and its words for calls, is tested and not proved.",
 	"Trusted besides what the program trusts: clang's back end for WebAssembly, wasm-ld and wasm-opt; the lines of the module that name the"
 		+ " processor, which were changed; host.c and the page's own script; the browser.",
@@ -92,12 +94,13 @@ function lay_controls() {
 		else if (innerWidth <= NARROW) $("views").scrollIntoView();
 	});
 	const save_transcript = () => page.ran && save("transcript.txt", bytes_of(page.ran.transcript));
-	const does = { stop: stop_all, share, draw, try: try_all, base: back_to_base, "save-picture": save_picture,
+	const does = { stop: stop_all, share, draw, try: try_all, prove: prove_all, base: back_to_base, "save-picture": save_picture,
 		"save-transcript": save_transcript, theme: change_theme };
 	for (const [id, what] of Object.entries(does)) $(id).addEventListener("click", () => what());
 	$("views").addEventListener("click", (event) => {
 		const tab = event.target.closest("[role=tab]");
 		if (tab) view(tab.id.slice("tab-".length));
+		if (tab?.id === "tab-proof") fill_claim();
 	});
 	for (const id of ["story", "transcript"]) $(id).addEventListener("click", take_click);
 	for (const id of ["views", "files"]) keys_of_tabs($(id));
