@@ -1,9 +1,13 @@
 """The lab in Rattle: `rt` proves a student's `pool.rt` over the layer, and has to refuse wrong bodies below the same contracts."""
+import fcntl
 import functools
+import glob
+import hashlib
+import itertools
 import os
 import re
+import shutil
 import subprocess
-import tempfile
 
 from .places import LABS
 from .results import Result, Row, nothing
@@ -15,12 +19,26 @@ ENSURES = re.compile(r"^ +ensures (\w+) \{.*\}$", re.M)
 
 
 class Repository:
-    """The repository that `make start` of the lab makes, for all students: the layer is proved in it once."""
+    """A repository that `make start` of the lab makes, in which the layer is proved once. It is kept beside other caches, and one process at a
+    time has it; each sum of the layer's sources and of the toolchain has its own."""
 
     def __init__(self, lab):
-        self.folder = tempfile.TemporaryDirectory()
-        self.lab, self.place = os.path.join(LABS, lab), os.path.join(self.folder.name, "lab12")
-        subprocess.run(["make", "-s", "-C", self.lab, "start", f"PLACE={self.place}"], check=True, stdout=subprocess.DEVNULL)
+        self.lab = os.path.join(LABS, lab)
+        kept = os.path.join(os.environ.get("XDG_CACHE_HOME") or os.path.expanduser("~/.cache"), "xinu", f"{lab}-{sum_of(self.lab)}")
+        os.makedirs(kept, exist_ok=True)
+        for number in itertools.count():
+            self.place = os.path.join(kept, str(number))
+            self.lock = open(self.place + ".lock", "w", encoding="utf-8")  # held until this process ends
+            try:
+                fcntl.flock(self.lock, fcntl.LOCK_EX | fcntl.LOCK_NB)
+                break
+            except OSError:
+                self.lock.close()
+        if not os.path.exists(self.place):
+            made = self.place + ".made"
+            shutil.rmtree(made, ignore_errors=True)
+            subprocess.run(["make", "-s", "-C", self.lab, "start", f"PLACE={made}"], check=True, stdout=subprocess.DEVNULL)
+            os.rename(made, self.place)
 
     def checked(self, source, only=None):
         """Whether `rt` proves a source, and what it prints if all was proved; none if the time was over."""
@@ -38,6 +56,19 @@ class Repository:
             return None, ""
 
 
+def sum_of(lab):
+    """A sum of what the lab's repository is made of, and of the toolchain that proves it."""
+    crates = os.path.join(os.path.dirname(LABS), "crates")
+    made_of = [os.path.join(lab, "Makefile"), *glob.glob(os.path.join(lab, "start", "*"))]
+    for crate in ("xinu_base", "queue_table"):
+        made_of += [path for part in ("src", "specs", "proofs") for path in glob.glob(os.path.join(crates, crate, part, "**"), recursive=True)]
+    whole = hashlib.sha256(subprocess.run(["rt", "version"], stdout=subprocess.PIPE, check=True).stdout)
+    for path in sorted(filter(os.path.isfile, made_of)):
+        with open(path, "rb") as file:
+            whole.update(path.encode() + hashlib.sha256(file.read()).digest())
+    return whole.hexdigest()[:16]
+
+
 def needs_of_layer():
     """Why such a lab can't be graded, a reason a line."""
     layer = os.path.join(os.path.dirname(LABS), "crates", "queue_table")
@@ -47,7 +78,7 @@ def needs_of_layer():
 
 @functools.lru_cache(maxsize=None)
 def repository(lab):
-    """The repository of a lab, made when it is first asked for."""
+    """The repository of a lab for this process, made when it is first asked for."""
     return Repository(lab)
 
 
@@ -81,7 +112,7 @@ def changed_contracts(given, text):
 
 
 def judged(given, text, wanted, place):
-    """Whether each part of the lab is done, with words for what is wrong."""
+    """Whether each part of the lab is done, with words for what is wrong; what isn't proved isn't run, nor changed."""
     changed = list(changed_contracts(given, text))
     yield not changed, f"the contract of {', '.join(changed) or 'a function'} isn't the given one with further clauses, each on a line"
     if changed:
