@@ -52,10 +52,11 @@ async function prove_now() {
 	const [lock, word, rule] = FIELDS.map((field) => $(field).value.trim()), images = await images_of(page.work);
 	if (!lock || !word || !rule) throw new Refused("What is to be proved isn't said: a lock, its word and the rule, here or in comments of a program.");
 	const files = Object.fromEntries(images.map((image, i) => [`${i + 1}.img`, image]));
-	const answer = await xinu(["prove", "--lock", lock, "--word", address_of(word, texts()), "--rule", rule, ...Object.keys(files)], { files });
+	const address = address_of(word, texts());
+	const answer = await xinu(["prove", "--lock", lock, "--word", address, "--rule", rule, ...Object.keys(files)], { files });
 	if (answer.trap) throw new Refused(stopped_words(answer));
 	if (![PROVED, NOT_PROVED, NOT_FOLLOWED].includes(answer.status)) throw new Refused(with_names(answer.err.trim()));
-	return answer;
+	return { status: answer.status, text: utf8(answer.out).trimEnd().replace(`the word at ${address}`, word === address ? "$&" : `${word} (at ${address})`) };
 }
 export async function prove_all() {
 	const start = performance.now();
@@ -67,8 +68,8 @@ export async function prove_all() {
 		$("proof").replaceChildren(make("p", { class: "fault-text" }, $("status").textContent));
 		return;
 	}
-	const text = utf8(answer.out).trimEnd(), place = answer.status === PROVED ? null : place_in(text), where = place?.line ? `  (line ${place.line})` : "";
-	const [first, ...rest] = lines_of(with_names(text));
+	const place = answer.status === PROVED ? null : place_in(answer.text), where = place?.line ? `  (line ${place.line})` : "";
+	const [first, ...rest] = lines_of(with_names(answer.text));
 	const heads = { [PROVED]: "proved", [NOT_PROVED]: "refuted", [NOT_FOLLOWED]: "refuted" };
 	$("proof").replaceChildren(make("p", { class: heads[answer.status] }, first + where), make("pre", { class: "text" }, rest.join("\n")));
 	if (place) show_fault(new Refused(first, place.key, place.line));

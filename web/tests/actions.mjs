@@ -115,6 +115,26 @@ async function races(b, check) {
 	check(await b.ev("xinu_page.page.ran.transcript.includes('con 32')"), "and back to the schedule before");
 	await press(b, "tab-step");
 }
+async function proofs(b, check) {
+	await open(b, "every_schedule");
+	await press(b, "tab-proof");
+	check(await b.ev("['lock', 'word', 'rule'].map((id) => document.getElementById(id).value).join()") === "4,counter,rounds",
+		"the comments of a program say what is to be proved");
+	const proved = async () => {
+		await b.ev("document.getElementById('proof').replaceChildren()");
+		await press(b, "prove");
+		await b.until("document.getElementById('proof').childElementCount > 0");
+		return b.ev(inner("proof"));
+	};
+	const right = await proved();
+	check(/^proved: .*shared\.s first\.s second\.s/.test(right) && /first\.s 20-44/.test(right), "the programs are proved", () => right);
+	await b.ev("(() => { const one = document.querySelectorAll('#panels textarea')[1]; one.value = one.value.replace('addi t0, t0, 1', 'addi t0, t0, 2'); one.dispatchEvent(new Event('input')); })()");
+	const wrong = await proved();
+	check(/^not proved: first\.s, address 44, with the lock: it gives back the lock while the word is rounds \+ 2 +\(line 10\)/.test(wrong), "a wrong one isn't, and its line is told",
+		() => wrong);
+	check(await b.ev("document.querySelectorAll('#panels .bar.fault').length") === 1, "and marked");
+	await press(b, "tab-step");
+}
 async function pictures(b, check) {
 	await open(b, "deadlock");
 	await press(b, "tab-picture");
@@ -205,7 +225,7 @@ async function stopping(b, check) {
 	check(at > 3, `Play goes on: to event ${at}`);
 }
 export async function actions(b, check, url) {
-	for (const part of [typing, schedule, races, pictures, uploads, lines_of_c, stopping]) await part(b, check);
+	for (const part of [typing, schedule, races, proofs, pictures, uploads, lines_of_c, stopping]) await part(b, check);
 	await links(b, check, url);
 	await written_links(b, check, url);
 }
