@@ -12,7 +12,7 @@ use Rattle.program_logic.proofs.TermValues.{next_rule, ticks}
 use Rattle.program_logic.specs.Claims.{system_of}
 use Rattle.program_logic.specs.Obeying.{Asks, Obeys}
 use Rattle.program_logic.specs.Outlines.{System}
-use Rattle.program_logic.specs.PlaceCheck.{create_checks, follows, granted, is_ticks, let_go, signal_checks, sleep_checks, wait_checks, yield_checks}
+use Rattle.program_logic.specs.PlaceCheck.{answer_checks, create_checks, follows, granted, is_ticks, let_go, only_answers, signal_checks, sleep_checks, wait_checks, yield_checks}
 use Rattle.program_logic.specs.Terms.{all_fixed, constant, given, is_constant, once_more, slot_entails, slot_of}
 use Rattle.program_logic.specs.declared.knowledge.Facts.{Facts}
 use Rattle.program_logic.specs.declared.outline.Lock.{Lock}
@@ -114,12 +114,12 @@ module _ {l : Lock} {many : ℕ} {first : ℕ → ℕ} {places : ℕ → List Pl
       → Obeys y p b k n h memory (record { outcome = Call; hart = record h { pc = following h }; memory = memory })
   yield_obeys b n h memory s pc regs is d =
       let a = and_parts (is_constant (slot_of s 17) 6) (follows (places p) b (suc k) (given s 10 (Known (constant 0)))) is in
-      inr (inr (inr (inr (record {
+      inr (inr (inr (inr (inl (record {
         asks = asks h memory pc;
         number = inl (found s 17 6 (seen b n) (seen b (number_at memory l.word 4)) h.regs (omega arith) a.0 d);
         after = at spot b (suc k) n (number_at memory l.word 4) (given s 10 (Known (constant 0))) (set h.regs 10 0) a.1
             (put s 10 (Known (constant 0)) (seen b n) (seen b (number_at memory l.word 4)) 0 h.regs regs (omega arith) d (omega arith));
-      }))))
+      })))))
 
   pub sleep_obeys : (b : Bool) (n : ℕ) (h : Hart) (memory : List ℕ) (s : Facts) → h.pc ≡ first p + 4 * k → length h.regs ≡ 32
       → sleep_checks (places p) k b s ≡ true → Describes s (seen b n) (seen b (number_at memory l.word 4)) h.regs
@@ -127,7 +127,7 @@ module _ {l : Lock} {many : ℕ} {first : ℕ → ℕ} {places : ℕ → List Pl
   sleep_obeys b n h memory s pc regs is d =
       let a = and_parts (is_constant (slot_of s 17) 26 && is_ticks (slot_of s 10)) (follows (places p) b (suc k) (given s 10 (Known (constant 0)))) is in
       let c = and_parts (is_constant (slot_of s 17) 26) (is_ticks (slot_of s 10)) a.0 in
-      inr (inr (inr (inr (record {
+      inr (inr (inr (inr (inl (record {
         asks = asks h memory pc;
         number = inr (
           found s 17 26 (seen b n) (seen b (number_at memory l.word 4)) h.regs (omega arith) c.0 d,
@@ -135,33 +135,69 @@ module _ {l : Lock} {many : ℕ} {first : ℕ → ℕ} {places : ℕ → List Pl
         );
         after = at spot b (suc k) n (number_at memory l.word 4) (given s 10 (Known (constant 0))) (set h.regs 10 0) a.1
             (put s 10 (Known (constant 0)) (seen b n) (seen b (number_at memory l.word 4)) 0 h.regs regs (omega arith) d (omega arith));
-      }))))
+      })))))
+
+  -- a call that only answers
+  asked_number : (s : Facts) (n v : ℕ) (regs : List ℕ) → only_answers (slot_of s 17) ≡ true → Describes s n v regs
+      → (slice_index regs 17 ≡ 1) ⊎ ((slice_index regs 17 ≡ 8) ⊎ ((slice_index regs 17 ≡ 17) ⊎ (slice_index regs 17 ≡ 27)))
+  asked_number s n v regs is d = one (or_cases (is_constant (slot_of s 17) 1) (is_constant (slot_of s 17) 8 || (is_constant (slot_of s 17) 17 || is_constant (slot_of s 17) 27)) is)
+    where
+      three : (is_constant (slot_of s 17) 17 ≡ true) ⊎ (is_constant (slot_of s 17) 27 ≡ true) → (slice_index regs 17 ≡ 17) ⊎ (slice_index regs 17 ≡ 27)
+      three (inl z) = inl (found s 17 17 n v regs (omega arith) z d)
+      three (inr z) = inr (found s 17 27 n v regs (omega arith) z d)
+
+      two : (is_constant (slot_of s 17) 8 ≡ true) ⊎ ((is_constant (slot_of s 17) 17 || is_constant (slot_of s 17) 27) ≡ true)
+          → (slice_index regs 17 ≡ 8) ⊎ ((slice_index regs 17 ≡ 17) ⊎ (slice_index regs 17 ≡ 27))
+      two (inl z) = inl (found s 17 8 n v regs (omega arith) z d)
+      two (inr z) = inr (three (or_cases (is_constant (slot_of s 17) 17) (is_constant (slot_of s 17) 27) z))
+
+      one : (is_constant (slot_of s 17) 1 ≡ true) ⊎ ((is_constant (slot_of s 17) 8 || (is_constant (slot_of s 17) 17 || is_constant (slot_of s 17) 27)) ≡ true)
+          → (slice_index regs 17 ≡ 1) ⊎ ((slice_index regs 17 ≡ 8) ⊎ ((slice_index regs 17 ≡ 17) ⊎ (slice_index regs 17 ≡ 27)))
+      one (inl z) = inl (found s 17 1 n v regs (omega arith) z d)
+      one (inr z) = inr (two (or_cases (is_constant (slot_of s 17) 8) (is_constant (slot_of s 17) 17 || is_constant (slot_of s 17) 27) z))
+
+  pub answer_obeys : (b : Bool) (n : ℕ) (h : Hart) (memory : List ℕ) (s : Facts) → h.pc ≡ first p + 4 * k → length h.regs ≡ 32
+      → answer_checks (places p) k b s ≡ true → Describes s (seen b n) (seen b (number_at memory l.word 4)) h.regs
+      → Obeys y p b k n h memory (record { outcome = Call; hart = record h { pc = following h }; memory = memory })
+  answer_obeys b n h memory s pc regs is d =
+      let a = and_parts (only_answers (slot_of s 17)) (follows (places p) b (suc k) (given s 10 Unknown)) is in
+      inr (inr (inr (inr (inr (record {
+        asks = asks h memory pc;
+        number = asked_number s (seen b n) (seen b (number_at memory l.word 4)) h.regs a.0 d;
+        after = λ value. at spot b (suc k) n (number_at memory l.word 4) (given s 10 Unknown) (set h.regs 10 value) a.1
+            (put s 10 Unknown (seen b n) (seen b (number_at memory l.word 4)) value h.regs regs (omega arith) d tt);
+      })))))
 
   pub call_obeys : (b : Bool) (n : ℕ) (h : Hart) (memory : List ℕ) (s : Facts) → h.pc ≡ first p + 4 * k → length h.regs ≡ 32
-      → (wait_checks l (places p) k b s || (signal_checks l (places p) k b s || (create_checks (places p) k b s || (yield_checks (places p) k b s || sleep_checks (places p) k b s)))) ≡ true
+      → (wait_checks l (places p) k b s || (signal_checks l (places p) k b s || (create_checks (places p) k b s || (yield_checks (places p) k b s || (sleep_checks (places p) k b s || answer_checks (places p) k b s))))) ≡ true
       → Describes s (seen b n) (seen b (number_at memory l.word 4)) h.regs
       → Obeys y p b k n h memory (record { outcome = Call; hart = record h { pc = following h }; memory = memory })
-  call_obeys b n h memory s pc regs is d = one (or_cases (wait_checks l (places p) k b s) (signal_checks l (places p) k b s || (create_checks (places p) k b s || (yield_checks (places p) k b s || sleep_checks (places p) k b s))) is)
+  call_obeys b n h memory s pc regs is d = one (or_cases (wait_checks l (places p) k b s) (signal_checks l (places p) k b s || (create_checks (places p) k b s || (yield_checks (places p) k b s || (sleep_checks (places p) k b s || answer_checks (places p) k b s)))) is)
     where
       did : Executed
       did = record { outcome = Call; hart = record h { pc = following h }; memory = memory }
 
-      four : (yield_checks (places p) k b s ≡ true) ⊎ (sleep_checks (places p) k b s ≡ true)
+      five : (sleep_checks (places p) k b s ≡ true) ⊎ (answer_checks (places p) k b s ≡ true)
+          → Obeys y p b k n h memory (record { outcome = Call; hart = record h { pc = following h }; memory = memory })
+      five (inl z) = sleep_obeys b n h memory s pc regs z d
+      five (inr z) = answer_obeys b n h memory s pc regs z d
+
+      four : (yield_checks (places p) k b s ≡ true) ⊎ ((sleep_checks (places p) k b s || answer_checks (places p) k b s) ≡ true)
           → Obeys y p b k n h memory (record { outcome = Call; hart = record h { pc = following h }; memory = memory })
       four (inl z) = yield_obeys b n h memory s pc regs z d
-      four (inr z) = sleep_obeys b n h memory s pc regs z d
+      four (inr z) = five (or_cases (sleep_checks (places p) k b s) (answer_checks (places p) k b s) z)
 
-      three : (create_checks (places p) k b s ≡ true) ⊎ ((yield_checks (places p) k b s || sleep_checks (places p) k b s) ≡ true)
+      three : (create_checks (places p) k b s ≡ true) ⊎ ((yield_checks (places p) k b s || (sleep_checks (places p) k b s || answer_checks (places p) k b s)) ≡ true)
           → Obeys y p b k n h memory (record { outcome = Call; hart = record h { pc = following h }; memory = memory })
       three (inl z) = create_obeys b n h memory s pc regs z d
-      three (inr z) = four (or_cases (yield_checks (places p) k b s) (sleep_checks (places p) k b s) z)
+      three (inr z) = four (or_cases (yield_checks (places p) k b s) (sleep_checks (places p) k b s || answer_checks (places p) k b s) z)
 
-      two : (signal_checks l (places p) k b s ≡ true) ⊎ ((create_checks (places p) k b s || (yield_checks (places p) k b s || sleep_checks (places p) k b s)) ≡ true)
+      two : (signal_checks l (places p) k b s ≡ true) ⊎ ((create_checks (places p) k b s || (yield_checks (places p) k b s || (sleep_checks (places p) k b s || answer_checks (places p) k b s))) ≡ true)
           → Obeys y p b k n h memory (record { outcome = Call; hart = record h { pc = following h }; memory = memory })
       two (inl z) = signal_obeys b n h memory s pc regs z d
-      two (inr z) = three (or_cases (create_checks (places p) k b s) (yield_checks (places p) k b s || sleep_checks (places p) k b s) z)
+      two (inr z) = three (or_cases (create_checks (places p) k b s) (yield_checks (places p) k b s || (sleep_checks (places p) k b s || answer_checks (places p) k b s)) z)
 
-      one : (wait_checks l (places p) k b s ≡ true) ⊎ ((signal_checks l (places p) k b s || (create_checks (places p) k b s || (yield_checks (places p) k b s || sleep_checks (places p) k b s))) ≡ true)
+      one : (wait_checks l (places p) k b s ≡ true) ⊎ ((signal_checks l (places p) k b s || (create_checks (places p) k b s || (yield_checks (places p) k b s || (sleep_checks (places p) k b s || answer_checks (places p) k b s)))) ≡ true)
           → Obeys y p b k n h memory (record { outcome = Call; hart = record h { pc = following h }; memory = memory })
       one (inl z) = wait_obeys b n h memory s pc regs z d
-      one (inr z) = two (or_cases (signal_checks l (places p) k b s) (create_checks (places p) k b s || (yield_checks (places p) k b s || sleep_checks (places p) k b s)) z)
+      one (inr z) = two (or_cases (signal_checks l (places p) k b s) (create_checks (places p) k b s || (yield_checks (places p) k b s || (sleep_checks (places p) k b s || answer_checks (places p) k b s))) z)

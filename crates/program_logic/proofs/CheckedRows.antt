@@ -1,16 +1,15 @@
--- A place that checks obeys: an instruction that gives a register a value, that loads or that stores.
+-- A place that checks obeys: an instruction that gives a register a value, or that goes on elsewhere.
 use Rattle.std.proofs.Common.{Bool, List, [], ap, arith, cond, false, inl, inr, length, refl, set, subst, suc, sym, true, zero, ℕ, ◌%◌, ◌&&◌, ◌*◌, ◌+◌, ◌-◌, ◌/◌, ◌<◌, ◌==◌, ◌^◌, ◌∙◌, ◌∷◌, ◌≡◌, ◌≤◌, ◌⊎◌}
 use Rattle.std.proofs.Math.ListN.{length-set}
-use Rattle.std.proofs.lemmas.Bool.{and_parts, cases_Bool, cond-false, cond-true, eq-eqb, eqb-true, le-leb, leb-true, true≢false}
+use Rattle.std.proofs.lemmas.Bool.{and_parts, cases_Bool, cond-false, cond-true, eq-eqb, eqb-true, leb-true}
 use Rattle.std.specs.Prelude.{get_or, nat_le}
-use Rattle.xinu_base.specs.declared.registers.Cause.TheVariants.{Load, Store, Target}
+use Rattle.xinu_base.specs.declared.registers.Cause.TheVariants.{Target}
 use Rattle.xinu_base.specs.declared.registers.Hart.{Hart}
 use Rattle.xinu_base.specs.declared.registers.Outcome.TheVariants.{Trap, Went}
-use Rattle.xinu_model.specs.Isa.Effects.{following, gives, stops, with_register}
+use Rattle.xinu_model.specs.Isa.Effects.{following, gives, goes, stops, with_register}
 use Rattle.xinu_model.specs.Isa.Instructions.{Fields}
-use Rattle.xinu_model.specs.Memory.{in_ram, may_access, number_at, ram_size, with_number}
+use Rattle.xinu_model.specs.Memory.{number_at, ram_size}
 use Rattle.program_logic.proofs.Known.{Describes, Means, arrived, put}
-use Rattle.program_logic.proofs.TermValues.{means_stored}
 use Rattle.program_logic.specs.Claims.{no_place, row_at, rows_at, system_of}
 use Rattle.program_logic.specs.Obeying.{Obeys}
 use Rattle.program_logic.specs.Outlines.{At, System, no_row, says}
@@ -84,55 +83,25 @@ module _ {l : Lock} {many : ℕ} {first : ℕ → ℕ} {places : ℕ → List Pl
     holds = at b (suc k) n (number_at memory l.word 4) s h.regs is d;
   })
 
-  pub leads_obeys : (b : Bool) (n : ℕ) (h : Hart) (memory : List ℕ) (s : Facts) (target : ℕ) → length h.regs ≡ 32
-      → leads (first p) (places p) b target s ≡ true → Describes s (seen b n) (seen b (number_at memory l.word 4)) h.regs
-      → Obeys y p b k n h memory
-      (cond (target % 4 == 0) (record { outcome = Went; hart = record h { pc = target }; memory = memory }) (stops h memory (Trap Target)))
-  leads_obeys b n h memory s target regs is d =
-      let a = and_parts (nat_le (first p) target && ((target - first p) % 4 == 0)) (follows (places p) b ((target - first p) / 4) s) is in
+  -- it goes on at an address, and a register takes a value
+  pub leads_obeys : (b : Bool) (n : ℕ) (h : Hart) (memory : List ℕ) (s : Facts) (rd : ℕ) (slot : Slot) (x target : ℕ) → length h.regs ≡ 32 → rd < 32
+      → leads (first p) (places p) b target (given s rd slot) ≡ true → Describes s (seen b n) (seen b (number_at memory l.word 4)) h.regs
+      → Means slot (seen b n) x
+      → Obeys y p b k n h memory (cond (target % 4 == 0) (goes h memory rd x target) (stops h memory (Trap Target)))
+  leads_obeys b n h memory s rd slot x target regs few is d m =
+      let a = and_parts (nat_le (first p) target && ((target - first p) % 4 == 0)) (follows (places p) b ((target - first p) / 4) (given s rd slot)) is in
       let c = and_parts (nat_le (first p) target) ((target - first p) % 4 == 0) a.0 in
       let low = leb-true (first p) target c.0 in
       let aligned = eqb-true ((target - first p) % 4) 0 c.1 in
       let whole_target : target % 4 ≡ 0 = omega (arith, low, aligned, spot.whole) in
-      subst (λ b'. Obeys y p b k n h memory (cond b' (record { outcome = Went; hart = record h { pc = target }; memory = memory }) (stops h memory (Trap Target))))
+      subst (λ b'. Obeys y p b k n h memory (cond b' (goes h memory rd x target) (stops h memory (Trap Target))))
       (sym (eq-eqb (target % 4) 0 whole_target))
       (inl (record {
         outcome = refl;
         next = (target - first p) / 4;
         pc = omega (arith, low, aligned);
-        regs = regs;
+        regs = register_length h.regs rd x ∙ regs;
         ram = inl refl;
-        holds = at b ((target - first p) / 4) n (number_at memory l.word 4) s h.regs a.1 d;
+        holds = at b ((target - first p) / 4) n (number_at memory l.word 4) (given s rd slot) (with_register h.regs rd x) a.1
+            (put s rd slot (seen b n) (seen b (number_at memory l.word 4)) x h.regs regs few d m);
       }))
-
-  pub accessed : may_access l.word 4 ≡ true
-  accessed = ap (λ b. b && in_ram l.word 4) (eq-eqb (l.word % 4) 0 spot.word_whole) ∙ le-leb (l.word + 4) ram_size spot.word_in
-
-  pub load_obeys : (b : Bool) (n : ℕ) (h : Hart) (memory : List ℕ) (f : Fields) (s : Facts) (address : ℕ) → h.pc ≡ first p + 4 * k → length h.regs ≡ 32
-      → f.rd < 32 → b ≡ true → follows (places p) b (suc k) (given s f.rd s.word) ≡ true
-      → Describes s (seen b n) (seen b (number_at memory l.word 4)) h.regs → address ≡ l.word
-      → Obeys y p b k n h memory (cond (may_access address 4) (gives f h memory (number_at memory address 4)) (stops h memory (Trap Load)))
-  load_obeys false n h memory f s address pc regs few held is d e = absurd (true≢false (sym held))
-  load_obeys true n h memory f s address pc regs few held is d e =
-      subst (λ a. Obeys y p true k n h memory (cond (may_access a 4) (gives f h memory (number_at memory a 4)) (stops h memory (Trap Load)))) (sym e)
-      (subst (λ b'. Obeys y p true k n h memory (cond b' (gives f h memory (number_at memory l.word 4)) (stops h memory (Trap Load)))) (sym accessed)
-      (gives_obeys true n h memory f s s.word (number_at memory l.word 4) pc regs few is d d.word))
-
-  pub store_obeys : (b : Bool) (n : ℕ) (h : Hart) (memory : List ℕ) (s : Facts) (address x : ℕ) (slot : Slot) → h.pc ≡ first p + 4 * k → length h.regs ≡ 32
-      → length memory ≡ ram_size → b ≡ true → follows (places p) b (suc k) (record { registers = s.registers; word = slot }) ≡ true
-      → Describes s (seen b n) (seen b (number_at memory l.word 4)) h.regs → Means slot (seen b n) x → address ≡ l.word
-      → Obeys y p b k n h memory
-      (cond (may_access address 4) (record { outcome = Went; hart = record h { pc = following h }; memory = with_number memory address 4 x }) (stops h memory (Trap Store)))
-  store_obeys false n h memory s address x slot pc regs ram held is d m e = absurd (true≢false (sym held))
-  store_obeys true n h memory s address x slot pc regs ram held is d m e =
-      subst (λ a. Obeys y p true k n h memory (cond (may_access a 4) (record { outcome = Went; hart = record h { pc = following h }; memory = with_number memory a 4 x }) (stops h memory (Trap Store)))) (sym e)
-      (subst (λ b'. Obeys y p true k n h memory (cond b' (record { outcome = Went; hart = record h { pc = following h }; memory = with_number memory l.word 4 x }) (stops h memory (Trap Store)))) (sym accessed)
-      (inl (record {
-        outcome = refl;
-        next = suc k;
-        pc = (let near = spot.near in omega arith);
-        regs = regs;
-        ram = inr (refl, (x, refl));
-        holds = at true (suc k) n (number_at (with_number memory l.word 4 x) l.word 4) (record { registers = s.registers; word = slot }) h.regs is
-            (record { registers = d.registers; word = means_stored slot memory l.word n x (omega (arith, ram, spot.word_in)) m });
-      })))

@@ -1,68 +1,139 @@
 -- A place that checks obeys, whatever its word is.
-use Rattle.std.proofs.Common.{Bool, List, None, Option, Some, arith, false, length, subst, suc, sym, true, ℕ, ◌&&◌, ◌*◌, ◌+◌, ◌-◌, ◌<◌, ◌==◌, ◌^◌, ◌≡◌, ◌≤◌}
-use Rattle.std.proofs.lemmas.Bool.{and_parts, cond_both, eqb-true, true≢false}
+use Rattle.std.proofs.Common.{Bool, List, None, Option, Some, ap, arith, false, inl, inr, length, not, option_map, subst, suc, sym, true, ℕ, ℤ, ◌*◌, ◌+◌, ◌-◌, ◌/◌, ◌<◌, ◌==◌, ◌^◌, ◌∙◌, ◌≡◌, ◌≤◌, ◌⊎◌}
+use Rattle.std.proofs.lemmas.Bool.{and_parts, cond_both, true≢false}
 use Rattle.std.proofs.lemmas.Int.{of_z-to_z}
 use Rattle.std.specs.Int.{cast_unsigned, w32}
 use Rattle.std.specs.Prelude.{nat_lt}
 use Rattle.rv_isa.specs.Words.{decoded, instr_with}
 use Rattle.xinu_base.specs.declared.registers.Hart.{Hart}
-use Rattle.xinu_model.specs.Isa.Effects.{effect, plus, register, wrapped}
+use Rattle.xinu_model.specs.Isa.Effects.{Executed, branches, effect, gives, less, less_unsigned, plus, register, wrapped}
 use Rattle.xinu_model.specs.Isa.Exec.{obeyed, perform}
-use Rattle.xinu_model.specs.Isa.Instructions.{Add, Addi, Beq, Bne, Ecall, Fields, Jal, Lui, Lw, Name, Sw, bits_from, fields, row_of, sign_extended}
+use Rattle.xinu_model.specs.Isa.Instructions.{Add, Addi, And, Andi, Auipc, Beq, Bge, Bgeu, Blt, Bltu, Bne, Ebreak, Ecall, Fence, Fields, Jal, Jalr, Lb, Lbu, Lh, Lhu, Lui, Lw, Name, Or, Ori, Sb, Sh, Sll, Slli, Slt, Slti, Sltiu, Sltu, Sra, Srai, Srl, Srli, Sub, Sw, Xor, Xori, bits_from, fields, row_of, sign_extended}
 use Rattle.xinu_model.specs.Memory.{number_at, ram_size}
 use Rattle.xinu_model.specs.Words.{signed}
 use Rattle.xinu_model.specs.Isa.Instructions as isa
-use Rattle.program_logic.proofs.CheckedBranches.{branch_obeys, equal_obeys, jump_obeys}
+use Rattle.program_logic.proofs.CheckedBranches.{branch_obeys, jump_obeys}
 use Rattle.program_logic.proofs.CheckedCalls.{call_obeys}
-use Rattle.program_logic.proofs.CheckedRows.{Spot, gives_obeys, load_obeys, seen, store_obeys}
-use Rattle.program_logic.proofs.Known.{Describes, means_constant, read, said}
-use Rattle.program_logic.proofs.TermValues.{means_added, means_more}
+use Rattle.program_logic.proofs.CheckedRows.{Spot, gives_obeys, passes_obeys, seen}
+use Rattle.program_logic.proofs.CheckedTransfers.{other_load, other_store, word_load, word_store}
+use Rattle.program_logic.proofs.Known.{Describes, Means, read, said}
+use Rattle.program_logic.proofs.TermValues.{Tells, means_added, means_folded, means_more, means_shifted, means_shifted_by, means_taken, number_is, tells_compared, tells_equal, tells_negated}
+use Rattle.program_logic.specs.Acts.{act_of, even, moved}
 use Rattle.program_logic.specs.Claims.{row_at, side_claim, system_of}
 use Rattle.program_logic.specs.Obeying.{IsObeyed, Obeys}
-use Rattle.program_logic.specs.Outlines.{Says, System, says}
-use Rattle.program_logic.specs.PlaceCheck.{address_slot, checks_instr, checks_on, follows, leads, place_checks, side_checks}
-use Rattle.program_logic.specs.Terms.{constant, given, is_constant, slot_of, slots_added}
+use Rattle.program_logic.specs.Operations.{folded, result_of}
+use Rattle.program_logic.specs.Outlines.{Says, says}
+use Rattle.program_logic.specs.PlaceCheck.{act_checks, branch_checks, checks_instr, follows, place_checks, side_checks}
+use Rattle.program_logic.specs.Terms.{are_equal, compared, constant, given, negated, number_in, slot_of}
+use Rattle.program_logic.specs.declared.acts.Width.TheVariants as width
 use Rattle.program_logic.specs.declared.knowledge.Facts.{Facts}
+use Rattle.program_logic.specs.declared.operations.Operation.{Operation}
+use Rattle.program_logic.specs.declared.operations.Operation.TheVariants as operation
 use Rattle.program_logic.specs.declared.outline.Lock.{Lock}
 use Rattle.program_logic.specs.declared.outline.Place.{Place}
-use Rattle.program_logic.specs.declared.values.Slot.TheVariants.{Known}
+use Rattle.program_logic.specs.declared.values.Slot.{Slot}
+use Rattle.program_logic.specs.declared.values.Slot.TheVariants.{Known, Unknown}
 
-module _ {l : Lock} {many : ℕ} {first : ℕ → ℕ} {places : ℕ → List Place} {p k : ℕ} (spot : Spot l many first places p k) where
-  abbrev y : System
-  y = system_of many first places l
+-- An instruction of this name with these registers and this immediate.
+module _ {l : Lock} {many : ℕ} {first : ℕ → ℕ} {places : ℕ → List Place} {p k : ℕ} (spot : Spot l many first places p k)
+    (b : Bool) (n : ℕ) (h : Hart) (memory : List ℕ) (s : Facts) (rd rs1 rs2 : ℕ) (z : ℤ) (pc : h.pc ≡ first p + 4 * k) (regs : length h.regs ≡ 32)
+    (ram : length memory ≡ ram_size) (few : rd < 32) (fits : cast_unsigned w32 z < 2 ^ 32)
+    (d : Describes s (seen b n) (seen b (number_at memory l.word 4)) h.regs) where
+  abbrev f : Fields
+  f = record { rd = rd; rs1 = rs1; rs2 = rs2; imm = cast_unsigned w32 z }
 
-  name_obeys : (name : Name) (b : Bool) (n : ℕ) (h : Hart) (memory : List ℕ) (f : Fields) (s : Facts) → h.pc ≡ first p + 4 * k → length h.regs ≡ 32
-      → length memory ≡ ram_size → f.rd < 32 → f.imm < 2 ^ 32 → checks_on l (first p) (places p) k b name f s ≡ true
-      → Describes s (seen b n) (seen b (number_at memory l.word 4)) h.regs → Obeys y p b k n h memory (effect name f h memory)
-  name_obeys Addi b n h memory f s pc regs ram few fits is d =
-      gives_obeys spot b n h memory f s (slots_added (slot_of s f.rs1) (Known (constant f.imm))) (plus (register h.regs f.rs1) f.imm) pc regs few is d
-      (means_more (slot_of s f.rs1) (seen b n) (register h.regs f.rs1) f.imm (read s f.rs1 (seen b n) (seen b (number_at memory l.word 4)) h.regs d))
-  name_obeys Add b n h memory f s pc regs ram few fits is d =
-      gives_obeys spot b n h memory f s (slots_added (slot_of s f.rs1) (slot_of s f.rs2)) (plus (register h.regs f.rs1) (register h.regs f.rs2)) pc regs few is d
-      (means_added (slot_of s f.rs1) (slot_of s f.rs2) (seen b n) (register h.regs f.rs1) (register h.regs f.rs2)
-      (read s f.rs1 (seen b n) (seen b (number_at memory l.word 4)) h.regs d) (read s f.rs2 (seen b n) (seen b (number_at memory l.word 4)) h.regs d))
-  name_obeys Lui b n h memory f s pc regs ram few fits is d =
-      gives_obeys spot b n h memory f s (Known (constant f.imm)) f.imm pc regs few is d (omega (arith, fits))
-  name_obeys Lw b n h memory f s pc regs ram few fits is d =
-      let a = and_parts (is_constant (address_slot s f) l.word) (b && follows (places p) b (suc k) (given s f.rd s.word)) is in
-      let c = and_parts b (follows (places p) b (suc k) (given s f.rd s.word)) a.1 in
-      load_obeys spot b n h memory f s (plus (register h.regs f.rs1) f.imm) pc regs few c.0 c.1 d
-      (means_constant (address_slot s f) l.word (seen b n) (plus (register h.regs f.rs1) f.imm) (omega (arith, spot.word_in)) a.0
-      (means_more (slot_of s f.rs1) (seen b n) (register h.regs f.rs1) f.imm (read s f.rs1 (seen b n) (seen b (number_at memory l.word 4)) h.regs d)))
-  name_obeys Sw b n h memory f s pc regs ram few fits is d =
-      let a = and_parts (is_constant (address_slot s f) l.word) (b && follows (places p) b (suc k) (record { registers = s.registers; word = slot_of s f.rs2 })) is in
-      let c = and_parts b (follows (places p) b (suc k) (record { registers = s.registers; word = slot_of s f.rs2 })) a.1 in
-      store_obeys spot b n h memory s (plus (register h.regs f.rs1) f.imm) (register h.regs f.rs2) (slot_of s f.rs2) pc regs ram c.0 c.1 d
-      (read s f.rs2 (seen b n) (seen b (number_at memory l.word 4)) h.regs d)
-      (means_constant (address_slot s f) l.word (seen b n) (plus (register h.regs f.rs1) f.imm) (omega (arith, spot.word_in)) a.0
-      (means_more (slot_of s f.rs1) (seen b n) (register h.regs f.rs1) f.imm (read s f.rs1 (seen b n) (seen b (number_at memory l.word 4)) h.regs d)))
-  name_obeys Bne b n h memory f s pc regs ram few fits is d = branch_obeys spot b n h memory f s pc regs is d
-  name_obeys Beq b n h memory f s pc regs ram few fits is d = equal_obeys spot b n h memory f s pc regs is d
-  name_obeys Jal b n h memory f s pc regs ram few fits is d =
-      let a = and_parts (f.rd == 0) (leads (first p) (places p) b (wrapped (first p + 4 * k + f.imm)) s) is in
-      jump_obeys spot b n h memory s f.rd f.imm pc regs (eqb-true f.rd 0 a.0) a.1 d
-  name_obeys Ecall b n h memory f s pc regs ram few fits is d = call_obeys spot b n h memory s pc regs is d
-  name_obeys _ b n h memory f s pc regs ram few fits is d = absurd (true≢false (sym is))
+  abbrev Done : Executed → Type 0
+  Done did = Obeys (system_of many first places l) p b k n h memory did
+
+  one : Means (slot_of s rs1) (seen b n) (register h.regs rs1)
+  one = read s rs1 (seen b n) (seen b (number_at memory l.word 4)) h.regs d
+
+  two : Means (slot_of s rs2) (seen b n) (register h.regs rs2)
+  two = read s rs2 (seen b n) (seen b (number_at memory l.word 4)) h.regs d
+
+  imm : Means (Known (constant (cast_unsigned w32 z))) (seen b n) (cast_unsigned w32 z)
+  imm = omega (arith, fits)
+
+  sum : Means (moved s rs1 z) (seen b n) (plus (register h.regs rs1) (cast_unsigned w32 z))
+  sum = means_more (slot_of s rs1) (seen b n) (register h.regs rs1) (cast_unsigned w32 z) one
+
+  sets : (slot : Slot) (x : ℕ) → Means slot (seen b n) x → follows (places p) b (suc k) (given s rd slot) ≡ true → Done (gives f h memory x)
+  sets slot x m is = gives_obeys spot b n h memory f s slot x pc regs few is d m
+
+  branches_to : (known : Option Bool) (holds : Bool) → Tells known holds
+      → branch_checks (first p) (places p) k b (cast_unsigned w32 z) known s ≡ true → Done (branches f h memory holds)
+  branches_to known holds tells is = branch_obeys spot b n h memory f s known holds pc regs is d tells
+
+  -- comparisons of the two registers
+  same : Tells (are_equal (slot_of s rs1) (slot_of s rs2)) (register h.regs rs1 == register h.regs rs2)
+  same = tells_equal (slot_of s rs1) (slot_of s rs2) (seen b n) (register h.regs rs1) (register h.regs rs2) one two
+
+  less_than : (test : ℕ → ℕ → Bool) → Tells (compared test (slot_of s rs1) (slot_of s rs2)) (test (register h.regs rs1) (register h.regs rs2))
+  less_than test = tells_compared test (slot_of s rs1) (slot_of s rs2) (seen b n) (register h.regs rs1) (register h.regs rs2) one two
+
+  -- an operation on them, and on one and the immediate
+  folds : (op : Operation) → Means (folded op (slot_of s rs1) (slot_of s rs2)) (seen b n) (result_of op (register h.regs rs1) (register h.regs rs2))
+  folds op = means_folded op (slot_of s rs1) (slot_of s rs2) (seen b n) (register h.regs rs1) (register h.regs rs2) one two
+
+  folds_imm : (op : Operation)
+      → Means (folded op (slot_of s rs1) (Known (constant (cast_unsigned w32 z)))) (seen b n) (result_of op (register h.regs rs1) (cast_unsigned w32 z))
+  folds_imm op =
+      means_folded op (slot_of s rs1) (Known (constant (cast_unsigned w32 z))) (seen b n) (register h.regs rs1) (cast_unsigned w32 z) one imm
+
+  -- the target of a jump to a register
+  target_told : (t : ℕ) → even (moved s rs1 z) ≡ Some t → plus (register h.regs rs1) (cast_unsigned w32 z) / 2 * 2 ≡ t
+  target_told t is = by (number_is (moved s rs1 z) (seen b n) (plus (register h.regs rs1) (cast_unsigned w32 z)) sum)
+    where
+      by : (number_in (moved s rs1 z) ≡ None)
+          ⊎ ((number_in (moved s rs1 z) ≡ Some (plus (register h.regs rs1) (cast_unsigned w32 z))) × (plus (register h.regs rs1) (cast_unsigned w32 z) < 2 ^ 32))
+          → plus (register h.regs rs1) (cast_unsigned w32 z) / 2 * 2 ≡ t
+      by (inl e) = let none : None ≡ Some t = sym (ap (option_map (λ a. a / 2 * 2)) e) ∙ is in absurd (cc)
+      by (inr e) =
+          let some : Some (plus (register h.regs rs1) (cast_unsigned w32 z) / 2 * 2) ≡ Some t = sym (ap (option_map (λ a. a / 2 * 2)) e.0) ∙ is in cc
+
+  name_obeys : (name : Name) → act_checks l (first p) (places p) k b (act_of (instr_with name rd rs1 rs2 z) (first p + 4 * k) s) s ≡ true
+      → Done (effect name f h memory)
+  name_obeys Lui is = sets (Known (constant (cast_unsigned w32 z))) (cast_unsigned w32 z) imm is
+  name_obeys Auipc is = sets (Known (constant (wrapped (first p + 4 * k + cast_unsigned w32 z)))) (plus h.pc (cast_unsigned w32 z)) (omega (arith, pc)) is
+  name_obeys Jal is = jump_obeys spot b n h memory f s (Some (wrapped (first p + 4 * k + cast_unsigned w32 z))) (plus h.pc (cast_unsigned w32 z)) pc regs few is d
+      (λ t e. ap (λ a. wrapped (a + cast_unsigned w32 z)) pc ∙ (let same_target : wrapped (first p + 4 * k + cast_unsigned w32 z) ≡ t = cc in same_target))
+  name_obeys Jalr is = jump_obeys spot b n h memory f s (even (moved s rs1 z)) (plus (register h.regs rs1) (cast_unsigned w32 z) / 2 * 2) pc regs few is d target_told
+  name_obeys Beq is = branches_to (are_equal (slot_of s rs1) (slot_of s rs2)) (register h.regs rs1 == register h.regs rs2) same is
+  name_obeys Bne is = branches_to (negated (are_equal (slot_of s rs1) (slot_of s rs2))) (not (register h.regs rs1 == register h.regs rs2)) (tells_negated _ _ same) is
+  name_obeys Blt is = branches_to (compared less (slot_of s rs1) (slot_of s rs2)) (less (register h.regs rs1) (register h.regs rs2)) (less_than less) is
+  name_obeys Bge is = branches_to (negated (compared less (slot_of s rs1) (slot_of s rs2))) (not (less (register h.regs rs1) (register h.regs rs2))) (tells_negated _ _ (less_than less)) is
+  name_obeys Bltu is = branches_to (compared less_unsigned (slot_of s rs1) (slot_of s rs2)) (less_unsigned (register h.regs rs1) (register h.regs rs2)) (less_than less_unsigned) is
+  name_obeys Bgeu is = branches_to (negated (compared less_unsigned (slot_of s rs1) (slot_of s rs2))) (not (less_unsigned (register h.regs rs1) (register h.regs rs2))) (tells_negated _ _ (less_than less_unsigned)) is
+  name_obeys Lb is = other_load spot b n h memory f s width.Byte (moved s rs1 z) (plus (register h.regs rs1) (cast_unsigned w32 z)) _ pc regs few is d sum
+  name_obeys Lh is = other_load spot b n h memory f s width.Half (moved s rs1 z) (plus (register h.regs rs1) (cast_unsigned w32 z)) _ pc regs few is d sum
+  name_obeys Lw is = word_load spot b n h memory f s (moved s rs1 z) (plus (register h.regs rs1) (cast_unsigned w32 z)) pc regs few is d sum
+  name_obeys Lbu is = other_load spot b n h memory f s width.Byte (moved s rs1 z) (plus (register h.regs rs1) (cast_unsigned w32 z)) _ pc regs few is d sum
+  name_obeys Lhu is = other_load spot b n h memory f s width.Half (moved s rs1 z) (plus (register h.regs rs1) (cast_unsigned w32 z)) _ pc regs few is d sum
+  name_obeys Sb is = other_store spot b n h memory s width.Byte (moved s rs1 z) (plus (register h.regs rs1) (cast_unsigned w32 z)) (register h.regs rs2) pc regs ram is d sum
+  name_obeys Sh is = other_store spot b n h memory s width.Half (moved s rs1 z) (plus (register h.regs rs1) (cast_unsigned w32 z)) (register h.regs rs2) pc regs ram is d sum
+  name_obeys Sw is = word_store spot b n h memory s (slot_of s rs2) (moved s rs1 z) (plus (register h.regs rs1) (cast_unsigned w32 z)) (register h.regs rs2) pc regs ram is d two sum
+  name_obeys Addi is = sets (moved s rs1 z) (plus (register h.regs rs1) (cast_unsigned w32 z)) sum is
+  name_obeys Slti is = sets _ _ (folds_imm operation.Less) is
+  name_obeys Sltiu is = sets _ _ (folds_imm operation.Below) is
+  name_obeys Xori is = sets _ _ (folds_imm operation.Xor) is
+  name_obeys Ori is = sets _ _ (folds_imm operation.Or) is
+  name_obeys Andi is = sets _ _ (folds_imm operation.And) is
+  name_obeys Slli is = sets _ _ (means_shifted (slot_of s rs1) (seen b n) (register h.regs rs1) (cast_unsigned w32 z) one) is
+  name_obeys Srli is = sets Unknown _ tt is
+  name_obeys Srai is = sets Unknown _ tt is
+  name_obeys Add is = sets _ _ (means_added (slot_of s rs1) (slot_of s rs2) (seen b n) (register h.regs rs1) (register h.regs rs2) one two) is
+  name_obeys Sub is = sets _ _ (means_taken (slot_of s rs1) (slot_of s rs2) (seen b n) (register h.regs rs1) (register h.regs rs2) one two) is
+  name_obeys Sll is = sets _ _ (means_shifted_by (slot_of s rs1) (slot_of s rs2) (seen b n) (register h.regs rs1) (register h.regs rs2) one two) is
+  name_obeys Slt is = sets _ _ (folds operation.Less) is
+  name_obeys Sltu is = sets _ _ (folds operation.Below) is
+  name_obeys Xor is = sets _ _ (folds operation.Xor) is
+  name_obeys Srl is = sets Unknown _ tt is
+  name_obeys Sra is = sets Unknown _ tt is
+  name_obeys Or is = sets _ _ (folds operation.Or) is
+  name_obeys And is = sets _ _ (folds operation.And) is
+  name_obeys Fence is = passes_obeys spot b n h memory s pc regs is d
+  name_obeys Ecall is = call_obeys spot b n h memory s pc regs is d
+  name_obeys Ebreak is = absurd (true≢false (sym is))
 
 rd_few : (form : isa.Form) (word : ℕ) → (fields form word).rd < 32
 rd_few isa.FormU word = omega arith
@@ -89,36 +160,17 @@ imm_fits isa.FormR word = omega arith
 imm_fits isa.FormFence word = omega arith
 imm_fits isa.FormWhole word = omega arith
 
--- an immediate comes back from its sign
-back : (l : Lock) (first : ℕ) (places : List Place) (k : ℕ) (b : Bool) (s : Facts) (name : Name) (rd rs1 rs2 imm : ℕ) → imm < 2 ^ 32
-    → checks_on l first places k b name (record { rd = rd; rs1 = rs1; rs2 = rs2; imm = cast_unsigned w32 (signed imm) }) s ≡ true
-    → checks_on l first places k b name (record { rd = rd; rs1 = rs1; rs2 = rs2; imm = imm }) s ≡ true
-back l first places k b s name rd rs1 rs2 imm fits is =
-    subst (λ i. checks_on l first places k b name (record { rd = rd; rs1 = rs1; rs2 = rs2; imm = i }) s ≡ true) (of_z-to_z w32 imm fits) is
-
-by_name : (l : Lock) (first : ℕ) (places : List Place) (k : ℕ) (b : Bool) (s : Facts) (name : Name) (rd rs1 rs2 imm : ℕ) → imm < 2 ^ 32
-    → checks_instr l first places k b (Some (instr_with name rd rs1 rs2 (signed imm))) s ≡ true
-    → checks_on l first places k b name (record { rd = rd; rs1 = rs1; rs2 = rs2; imm = imm }) s ≡ true
-by_name l first places k b s Addi rd rs1 rs2 imm fits is = back l first places k b s Addi rd rs1 0 imm fits is
-by_name l first places k b s Add rd rs1 rs2 imm fits is = is
-by_name l first places k b s Lui rd rs1 rs2 imm fits is = back l first places k b s Lui rd 0 0 imm fits is
-by_name l first places k b s Lw rd rs1 rs2 imm fits is = back l first places k b s Lw rd rs1 0 imm fits is
-by_name l first places k b s Sw rd rs1 rs2 imm fits is = back l first places k b s Sw 0 rs1 rs2 imm fits is
-by_name l first places k b s Bne rd rs1 rs2 imm fits is = back l first places k b s Bne 0 rs1 rs2 imm fits is
-by_name l first places k b s Beq rd rs1 rs2 imm fits is = back l first places k b s Beq 0 rs1 rs2 imm fits is
-by_name l first places k b s Jal rd rs1 rs2 imm fits is = back l first places k b s Jal rd 0 0 imm fits is
-by_name l first places k b s Ecall rd rs1 rs2 imm fits is = is
-by_name l first places k b s _ rd rs1 rs2 imm fits is = absurd (true≢false (sym is))
-
 module _ {l : Lock} {many : ℕ} {first : ℕ → ℕ} {places : ℕ → List Place} {p k : ℕ} (spot : Spot l many first places p k) where
   word_obeys : (o : Option isa.Row) (word : ℕ) (b : Bool) (n : ℕ) (h : Hart) (memory : List ℕ) (s : Facts) → h.pc ≡ first p + 4 * k → length h.regs ≡ 32
       → length memory ≡ ram_size → checks_instr l (first p) (places p) k b (decoded o word) s ≡ true
       → Describes s (seen b n) (seen b (number_at memory l.word 4)) h.regs → Obeys (system_of many first places l) p b k n h memory (obeyed o word h memory)
   word_obeys None word b n h memory s pc regs ram is d = absurd (true≢false (sym is))
   word_obeys (Some r) word b n h memory s pc regs ram is d =
-      name_obeys spot r.name b n h memory (fields r.form word) s pc regs ram (rd_few r.form word)
-      (imm_fits r.form word)
-      (by_name l (first p) (places p) k b s r.name ((fields r.form word).rd) ((fields r.form word).rs1) ((fields r.form word).rs2) ((fields r.form word).imm) (imm_fits r.form word) is) d
+      let f = fields r.form word in
+      let back = of_z-to_z w32 f.imm (imm_fits r.form word) in
+      subst (λ i. Obeys (system_of many first places l) p b k n h memory (effect r.name (record { rd = f.rd; rs1 = f.rs1; rs2 = f.rs2; imm = i }) h memory)) back
+      (name_obeys spot b n h memory s f.rd f.rs1 f.rs2 (signed f.imm) pc regs ram (rd_few r.form word)
+      (subst (λ i. i < 2 ^ 32) (sym back) (imm_fits r.form word)) d r.name is)
 
   side_obeys : (o : Option Facts) (word : ℕ) (b : Bool) (n : ℕ) (h : Hart) (memory : List ℕ) → h.pc ≡ first p + 4 * k → length h.regs ≡ 32
       → length memory ≡ ram_size → side_checks l (first p) (places p) k b word o ≡ true

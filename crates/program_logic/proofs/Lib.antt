@@ -4,6 +4,7 @@ pub mod CheckedBranches
 pub mod CheckedCalls
 pub mod CheckedPrograms
 pub mod CheckedRows
+pub mod CheckedTransfers
 pub mod CheckedWords
 pub mod Creates
 pub mod EachRegister

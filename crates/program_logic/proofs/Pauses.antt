@@ -1,5 +1,5 @@
--- `yield` and `sleepms`: others run.
-use Rattle.std.proofs.Common.{List, Option, ap, arith, get_or, inr, pos, refl, set, subst, suc, sym, ℕ, ⊎_elim, ◌+◌, ◌<◌, ◌==◌, ◌∙◌, ◌≡◌, ◌≢◌}
+-- `yield` and `sleepms`, after which others run, and calls that only answer.
+use Rattle.std.proofs.Common.{List, Option, ap, arith, cond, false, get_or, inr, pos, refl, set, subst, suc, sym, ℕ, ℤ, ⊎_elim, ◌+◌, ◌<◌, ◌==◌, ◌&&◌, ◌∙◌, ◌≡◌, ◌≢◌}
 use Rattle.std.proofs.lemmas.List.{get_or-set_other, get_or-set_same}
 use Rattle.scheduling_laws.proofs.Waiters.{not_waiting}
 use Rattle.table_laws.proofs.Lists.Counts.{filter_absent}
@@ -12,14 +12,16 @@ use Rattle.xinu_base.specs.declared.processes.Process.{Process}
 use Rattle.xinu_base.specs.declared.processes.Rest.TheVariants.{Nothing}
 use Rattle.xinu_base.specs.declared.processes.State.TheVariants.{Sleeping}
 use Rattle.xinu_model.specs.Clock.{sleepms, yield}
-use Rattle.xinu_model.specs.Machine.{Xinu, end_of_event, no_hart}
+use Rattle.xinu_model.specs.Machine.{Xinu, end_of_event, no_hart, returns, start}
 use Rattle.xinu_model.specs.Memory.{number_at}
 use Rattle.xinu_model.specs.Process.Scheduling.{resched}
 use Rattle.xinu_model.specs.Sound.Tables.{CanRun, IsInside, waiting_places}
 use Rattle.xinu_model.specs.Tables.{InSleepers, Tables, message_at, move_to, process_at, semaphore_at, semaphore_without, state_at}
-use Rattle.program_logic.proofs.Answering.{Acts, Next, after_call, answered, asked, call_line, there_are}
+use Rattle.program_logic.proofs.Answering.{Acts, Next, after_call, answered, asked, call_line, given, there_are}
 use Rattle.program_logic.proofs.Threads.{cant_sleep, free_kept, lock_kept, thread_kept}
-use Rattle.program_logic.proofs.Turns.{Turned, turned_resched, turns_resched}
+use Rattle.program_logic.proofs.Turns.{Turned, turned_resched, turned_same, turns_resched}
+use Rattle.std.specs.Prelude.{slice_index}
+use Rattle.xinu_model.specs.Words.{word}
 use Rattle.program_logic.specs.Obeying.{IsSystem}
 use Rattle.program_logic.specs.Outlines.{At, System, has}
 use Rattle.program_logic.specs.Running.{IsThread}
@@ -46,6 +48,18 @@ module _ {y : System} {holder : Option ℕ} {n k : ℕ} {s : Xinu} (ok : IsSyste
             (λ e. (refl, refl)) c.runs.running.lock);
         calm = refl;
       }
+
+  -- a call that only answers
+  pub only_answered : (number : ℕ) (args : List ℕ) (value : ℤ) → (number == 19) ≡ false
+      → ((x : ℕ) → At y s.tables.current (has holder s.tables.current) (suc k) n (number_at s.memory y.word 4) (set (get_or s.harts s.tables.current no_hart).regs 10 x))
+      → Next y n (end_of_event s.tables.current (call_line s.tables.current number args) (returns (start (asked s)) value))
+  only_answered number args value other at = record {
+    holder = holder;
+    count = n;
+    is = (let e : given y.sem (call_line s.tables.current number args) ≡ 0 = ap (λ b. cond (b && (slice_index args 0 == y.sem)) 1 0) other in omega (arith, e));
+    running = answered ok c holder n value s.tables (λ q. turned_same (process_at s.tables q)) (λ q different. (refl, λ e. refl)) (at (word value)) c.runs.running.lock;
+    calm = refl;
+  }
 
   -- `sleepms` for some ticks
   pub slept : (args : List ℕ) (m : ℕ)

@@ -43,6 +43,22 @@ pub lie_below : (memory : List ℕ) (b n : ℕ) (bytes : List ℕ) (a : ℕ) (wo
 lie_below memory b n bytes a words below lie =
     subst (λ m. Lie m a words) (sym (append_assoc (take b memory) bytes (drop (b + n) memory))) (still_lie memory (bytes ++ drop (b + n) memory) b a words below lie)
 
+-- A word below bytes that are written stays.
+pub kept_below : (memory : List ℕ) (b n : ℕ) (bytes : List ℕ) (a : ℕ) → a + 4 ≤ b → a + 4 ≤ length memory
+    → number_at (with_bytes memory b n bytes) a 4 ≡ number_at memory a 4
+kept_below memory b n bytes a below within =
+    subst (λ m. number_at m a 4 ≡ number_at memory a 4) (sym (append_assoc (take b memory) bytes (drop (b + n) memory))) word
+  where
+    word : number_at (take b memory ++ (bytes ++ drop (b + n) memory)) a 4 ≡ number_at memory a 4
+    word =
+        rw (
+          before_written memory (bytes ++ drop (b + n) memory) b a (omega (arith, below)) (omega (arith, within)),
+          before_written memory (bytes ++ drop (b + n) memory) b (a + 1) (omega (arith, below)) (omega (arith, within)),
+          before_written memory (bytes ++ drop (b + n) memory) b (a + 1 + 1) (omega (arith, below)) (omega (arith, within)),
+          before_written memory (bytes ++ drop (b + n) memory) b (a + 1 + 1 + 1) (omega (arith, below)) (omega (arith, within)),
+        )
+        refl
+
 -- an element behind others
 behind : (front more : List ℕ) (a k : ℕ) → a ≡ length front + k → slice_index (front ++ more) a ≡ slice_index more k
 behind front more a k is =

@@ -1,5 +1,5 @@
 -- One event: the programs run on, and their outlines hold.
-use Rattle.std.proofs.Common.{List, None, Option, [], ap, arith, cond, drop, false, get_or, inl, inr, length, pos, refl, set, subst, suc, sym, take, true, zero, ℕ, ⊎_elim, ◌%◌, ◌+◌, ◌<◌, ◌==◌, ◌∙◌, ◌∷◌, ◌≡◌, ◌≢◌, ◌≤◌}
+use Rattle.std.proofs.Common.{Bool, List, None, Option, [], ap, arith, cond, drop, false, get_or, inl, inr, length, pos, refl, set, subst, suc, sym, take, true, zero, ℕ, ℤ, ⊎_elim, ◌%◌, ◌+◌, ◌<◌, ◌==◌, ◌∙◌, ◌∷◌, ◌≡◌, ◌≢◌, ◌≤◌, ◌⊎◌}
 use Rattle.std.proofs.lemmas.Bool.{cases_lt, cond_both, eqb-false}
 use Rattle.std.proofs.lemmas.List.{get_or-drop, get_or-set_other, get_or-set_same, get_or-take}
 use Rattle.std.specs.Prelude.{slice_index}
@@ -14,17 +14,19 @@ use Rattle.xinu_base.specs.declared.processes.State.TheVariants.{Sleeping, Waiti
 use Rattle.xinu_base.specs.declared.registers.Hart.{Hart}
 use Rattle.xinu_laws.proofs.Preserve.Events.{state_event}
 use Rattle.xinu_model.specs.Calls.{called, calls, continued}
-use Rattle.xinu_model.specs.Clock.{sleepms, yield}
+use Rattle.xinu_base.specs.Constants.{SYSERR}
+use Rattle.xinu_model.specs.Clock.{clktime, sleepms, yield}
 use Rattle.xinu_model.specs.Events.{Happens, call_of, effect_of, instruction_step, is_done, made_first, next_file_call, reacted, step_with, stepped, with_executed}
 use Rattle.xinu_model.specs.Files.Syscalls.{files_of}
 use Rattle.xinu_model.specs.Isa.Effects.{Executed}
 use Rattle.xinu_model.specs.Isa.Exec.{perform}
-use Rattle.xinu_model.specs.Machine.{CallResult, EventResult, Xinu, end_of_event, no_hart, nothing_happens}
+use Rattle.xinu_model.specs.Machine.{CallResult, EventResult, Xinu, end_of_event, no_hart, nothing_happens, refused, returns, start}
 use Rattle.xinu_model.specs.Memory.{number_at, ram_size, with_number}
 use Rattle.xinu_model.specs.Semaphores.Calls.{made_semaphore, semcreate, signal, wait}
-use Rattle.xinu_model.specs.Semaphores.Counts.{free_semaphore}
+use Rattle.xinu_model.specs.Process.Calls.{getpid}
+use Rattle.xinu_model.specs.Semaphores.Counts.{count_of, free_semaphore, is_good}
 use Rattle.xinu_model.specs.Sound.Tables.{CanRun}
-use Rattle.xinu_model.specs.Tables.{process_at, state_at}
+use Rattle.xinu_model.specs.Tables.{is_free, process_at, semaphore_at, state_at}
 use Rattle.xinu_model.specs.Words.{signed}
 use Rattle.xinu_base.specs.declared.lines.TranscriptLine.TheVariants as line
 use Rattle.xinu_base.specs.declared.registers.Outcome.TheVariants as outcome
@@ -33,15 +35,15 @@ use Rattle.program_logic.proofs.Creates.{created}
 use Rattle.program_logic.proofs.Fetching.{performed, row_there}
 use Rattle.program_logic.proofs.Holders.{has_other}
 use Rattle.program_logic.proofs.Idle.{nothing_left, passes}
-use Rattle.program_logic.proofs.Pauses.{slept, yielded}
-use Rattle.program_logic.proofs.Ram.{lie_below}
+use Rattle.program_logic.proofs.Pauses.{only_answered, slept, yielded}
+use Rattle.program_logic.proofs.Ram.{kept_below, lie_below}
 use Rattle.program_logic.proofs.Signals.{signalled_next}
 use Rattle.program_logic.proofs.Threads.{idle_runs, lock_kept, thread_kept}
 use Rattle.program_logic.proofs.Turns.{turned_same}
 use Rattle.program_logic.proofs.Waits.{waited}
 use Rattle.program_logic.proofs.Waking.{tick_runs}
 use Rattle.program_logic.specs.Images.{Lie}
-use Rattle.program_logic.specs.Obeying.{Goes, IsSystem, Obeys}
+use Rattle.program_logic.specs.Obeying.{Goes, IsBehind, IsSystem, Obeys}
 use Rattle.program_logic.specs.Outlines.{At, System, has, no_row, words_of}
 use Rattle.program_logic.specs.Running.{AreRunning, IsThread, Runs}
 
@@ -74,21 +76,31 @@ went y holder n s did ok c g =
       files = k.files;
     }
   where
-    by_ram : (P : List ℕ → Type 0) → P s.memory → ((x : ℕ) → has holder s.tables.current ≡ true → P (with_number s.memory y.word 4 x)) → P did.memory
-    by_ram P same new = ⊎_elim (λ (e : did.memory ≡ s.memory). subst P (sym e) same)
-        (λ (e : (has holder s.tables.current ≡ true) × ((x : ℕ) × (did.memory ≡ with_number s.memory y.word 4 x))). subst P (sym e.1.1) (new e.1.0 e.0)) g.ram
+    -- RAM is as it was, the guarded word was stored, or what lies behind it
+    by_ram : (P : List ℕ → Type 0) → P s.memory → ((x : ℕ) → has holder s.tables.current ≡ true → P (with_number s.memory y.word 4 x))
+        → ((a bytes x : ℕ) → y.word + 4 ≤ a → P (with_number s.memory a bytes x)) → P did.memory
+    by_ram P same new behind = ⊎_elim (λ (e : did.memory ≡ s.memory). subst P (sym e) same)
+        (⊎_elim (λ (e : (has holder s.tables.current ≡ true) × ((x : ℕ) × (did.memory ≡ with_number s.memory y.word 4 x))). subst P (sym e.1.1) (new e.1.0 e.0))
+        (λ (e : IsBehind y s.memory did.memory). subst P (sym e.is) (behind e.address e.bytes e.value e.behind)))
+        g.ram
+
+    word_stays : (a bytes x : ℕ) → y.word + 4 ≤ a → number_at (with_number s.memory a bytes x) y.word 4 ≡ number_at s.memory y.word 4
+    word_stays a bytes x behind =
+        kept_below s.memory a bytes _ y.word behind (let all = c.runs.sound.ram.bytes in let within = ok.ram in omega (arith, all, within))
 
     word : (q : ℕ) → q ≢ s.tables.current → has holder q ≡ true → number_at did.memory y.word 4 ≡ number_at s.memory y.word 4
     word q other e = by_ram (λ m. number_at m y.word 4 ≡ number_at s.memory y.word 4) refl
-        (λ x mine. let not = has_other holder s.tables.current q mine other in absurd (cc))
+        (λ x mine. let not = has_other holder s.tables.current q mine other in absurd (cc)) word_stays
 
     unheld : holder ≡ None → number_at did.memory y.word 4 ≡ number_at s.memory y.word 4
     unheld e = by_ram (λ m. number_at m y.word 4 ≡ number_at s.memory y.word 4) refl
-        (λ x mine. let not : has holder s.tables.current ≡ false = subst (λ o. has o s.tables.current ≡ false) (sym e) refl in absurd (cc))
+        (λ x mine. let not : has holder s.tables.current ≡ false = subst (λ o. has o s.tables.current ≡ false) (sym e) refl in absurd (cc)) word_stays
 
     loaded : (q : ℕ) → 1 ≤ q → q ≤ y.many → Lie did.memory (y.first q) (words_of (y.code q))
     loaded q some few = by_ram (λ m. Lie m (y.first q) (words_of (y.code q))) (c.runs.running.loaded q some few)
         (λ x mine. lie_below s.memory y.word 4 _ (y.first q) (words_of (y.code q)) (ok.below q some few) (c.runs.running.loaded q some few))
+        (λ a bytes x behind. lie_below s.memory a bytes _ (y.first q) (words_of (y.code q))
+        (let below = ok.below q some few in omega (arith, below, behind)) (c.runs.running.loaded q some few))
 
 -- ---- calls
 
@@ -107,6 +119,39 @@ yielded_by args s = refl
 slept_by : (args : List ℕ) (s : Xinu) → called 26 args s ≡ sleepms (signed (slice_index args 0)) s
 unfolding calls
 slept_by args s = refl
+
+-- calls that only answer
+asked_pid : (args : List ℕ) (s : Xinu) → called 1 args s ≡ getpid s
+unfolding calls
+asked_pid args s = refl
+
+asked_time : (args : List ℕ) (s : Xinu) → called 27 args s ≡ clktime s
+unfolding calls
+asked_time args s = refl
+
+abbrev priority_of : ℕ → Xinu → ℤ
+priority_of p s = cond (is_free (state_at s.tables p)) SYSERR (process_at s.tables p).priority
+
+asked_priority : (args : List ℕ) (s : Xinu) → called 8 args s ≡ returns (start s) (priority_of (slice_index args 0) s)
+unfolding calls
+asked_priority args s = by_answer (is_free (state_at s.tables (slice_index args 0)))
+  where
+    by_answer : (b : Bool) → cond b (refused s) (returns (start s) (process_at s.tables (slice_index args 0)).priority)
+        ≡ returns (start s) (cond b SYSERR (process_at s.tables (slice_index args 0)).priority)
+    by_answer true = refl
+    by_answer false = refl
+
+abbrev count_in : ℕ → Xinu → ℤ
+count_in sem s = cond (is_good sem s.tables) (count_of (semaphore_at s.tables sem)) SYSERR
+
+asked_count : (args : List ℕ) (s : Xinu) → called 17 args s ≡ returns (start s) (count_in (slice_index args 0) s)
+unfolding calls
+asked_count args s = by_answer (is_good (slice_index args 0) s.tables)
+  where
+    by_answer : (b : Bool) → cond b (returns (start s) (count_of (semaphore_at s.tables (slice_index args 0)))) (refused s)
+        ≡ returns (start s) (cond b (count_of (semaphore_at s.tables (slice_index args 0))) SYSERR)
+    by_answer true = refl
+    by_answer false = refl
 
 -- a call of a number, if its line and its result are known
 reacts : (y : System) (holder : Option ℕ) (n k number : ℕ) (s : Xinu) (r : List ℕ → CallResult) → IsSystem y → Acts y holder n k s
@@ -148,7 +193,7 @@ obeyed_next y holder n k s did ok c regs (inr (inr (inr (inl w)))) =
     subst (λ d. Next y n (reacted d.outcome (with_executed d s))) (sym w.asks.does)
     (reacts y holder n k 14 s (λ args. made_semaphore 1 (free_semaphore s.tables) (asked s)) ok acts w.number
     (λ args e. created_by args (asked s) ∙ ap (λ i. semcreate (signed i) (asked s)) (e ∙ w.count)) (λ args e. created ok acts args w.outside w.after))
-obeyed_next y holder n k s did ok c regs (inr (inr (inr (inr w)))) =
+obeyed_next y holder n k s did ok c regs (inr (inr (inr (inr (inl w))))) =
     let acts : Acts y holder n k s = record { runs = c.runs; some = c.some; few = c.few; next = w.asks.pc; regs = regs } in
     subst (λ d. Next y n (reacted d.outcome (with_executed d s))) (sym w.asks.does)
     (⊎_elim
@@ -159,6 +204,26 @@ obeyed_next y holder n k s did ok c regs (inr (inr (inr (inr w)))) =
     (λ args f. slept_by args (asked s) ∙ ap (λ i. sleepms (signed i) (asked s)) f ∙ ap (λ i. sleepms i (asked s)) e.1.1)
     (λ args f. slept ok acts args e.1.0 w.after))
     w.number)
+obeyed_next y holder n k s did ok c regs (inr (inr (inr (inr (inr w))))) =
+    let acts : Acts y holder n k s = record { runs = c.runs; some = c.some; few = c.few; next = w.asks.pc; regs = regs } in
+    subst (λ d. Next y n (reacted d.outcome (with_executed d s))) (sym w.asks.does)
+    (by acts w.number)
+  where
+    h : Hart
+    h = get_or s.harts s.tables.current no_hart
+
+    by : Acts y holder n k s → (slice_index h.regs 17 ≡ 1) ⊎ ((slice_index h.regs 17 ≡ 8) ⊎ ((slice_index h.regs 17 ≡ 17) ⊎ (slice_index h.regs 17 ≡ 27)))
+        → Next y n (reacted outcome.Call (asked s))
+    by acts (inl e) =
+        reacts y holder n k 1 s (λ args. getpid (asked s)) ok acts e (λ args f. asked_pid args (asked s)) (λ args f. only_answered ok acts 1 args _ refl w.after)
+    by acts (inr (inl e)) =
+        reacts y holder n k 8 s (λ args. returns (start (asked s)) (priority_of (slice_index h.regs 10) (asked s))) ok acts e
+        (λ args f. asked_priority args (asked s) ∙ ap (λ i. returns (start (asked s)) (priority_of i (asked s))) f) (λ args f. only_answered ok acts 8 args _ refl w.after)
+    by acts (inr (inr (inl e))) =
+        reacts y holder n k 17 s (λ args. returns (start (asked s)) (count_in (slice_index h.regs 10) (asked s))) ok acts e
+        (λ args f. asked_count args (asked s) ∙ ap (λ i. returns (start (asked s)) (count_in i (asked s))) f) (λ args f. only_answered ok acts 17 args _ refl w.after)
+    by acts (inr (inr (inr e))) =
+        reacts y holder n k 27 s (λ args. clktime (asked s)) ok acts e (λ args f. asked_time args (asked s)) (λ args f. only_answered ok acts 27 args _ refl w.after)
 
 -- ---- a step
 

@@ -1,7 +1,9 @@
+pub mod Acts
 pub mod Claims
 pub mod Images
 pub mod Kept
 pub mod Obeying
+pub mod Operations
 pub mod Outlines
 pub mod PlaceCheck
 pub mod Running

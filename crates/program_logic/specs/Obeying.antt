@@ -8,13 +8,22 @@ use Rattle.xinu_model.specs.Memory.{number_at, ram_size, with_number}
 use Rattle.xinu_model.specs.Words.{signed}
 use Rattle.program_logic.specs.Outlines.{At, EachOf, Row, Rule, System, says, words_of}
 
--- A plain instruction leads to a place at which what holds there holds. Only who has the token writes, and only the guarded word.
+-- RAM after a store behind the guarded word, where no program lies.
+pub record IsBehind (y : System) (memory new : List ℕ) : Type 0 where
+  pub address : ℕ
+  pub bytes : ℕ
+  pub value : ℕ
+  pub behind : y.word + 4 ≤ address
+  pub is : new ≡ with_number memory address bytes value
+
+-- A plain instruction leads to a place at which what holds there holds. Only who has the token writes the guarded word, and else what is written
+-- lies behind it.
 pub record Goes (y : System) (p : ℕ) (b : Bool) (n : ℕ) (memory : List ℕ) (did : Executed) : Type 0 where
   pub outcome : did.outcome ≡ Went
   pub next : ℕ
   pub pc : did.hart.pc ≡ y.first p + 4 * next
   pub regs : length did.hart.regs ≡ 32
-  pub ram : (did.memory ≡ memory) ⊎ ((b ≡ true) × ((x : ℕ) × (did.memory ≡ with_number memory y.word 4 x)))
+  pub ram : (did.memory ≡ memory) ⊎ (((b ≡ true) × ((x : ℕ) × (did.memory ≡ with_number memory y.word 4 x))) ⊎ IsBehind y memory did.memory)
   pub holds : At y p b next n (number_at did.memory y.word 4) did.hart.regs
 
 -- An `ecall`, after which the next place is the one that follows.
@@ -54,9 +63,16 @@ pub record Pauses (y : System) (p : ℕ) (b : Bool) (k n : ℕ) (h : Hart) (memo
   pub number : (slice_index h.regs 17 ≡ 6) ⊎ ((slice_index h.regs 17 ≡ 26) × ((m : ℕ) × (signed (slice_index h.regs 10) ≡ pos (suc m))))
   pub after : At y p b (suc k) n (number_at memory y.word 4) (slice_set h.regs 10 0)
 
+-- A call that only answers: `getpid`, `getprio`, `semcount` or `clktime`.
+pub record Answers (y : System) (p : ℕ) (b : Bool) (k n : ℕ) (h : Hart) (memory : List ℕ) (did : Executed) : Type 0 where
+  pub asks : Asks y p k h memory did
+  pub number : (slice_index h.regs 17 ≡ 1) ⊎ ((slice_index h.regs 17 ≡ 8) ⊎ ((slice_index h.regs 17 ≡ 17) ⊎ (slice_index h.regs 17 ≡ 27)))
+  pub after : (value : ℕ) → At y p b (suc k) n (number_at memory y.word 4) (slice_set h.regs 10 value)
+
 abbrev pub Obeys : System → ℕ → Bool → ℕ → ℕ → Hart → List ℕ → Executed → Type 0
 Obeys y p b k n h memory did =
-    Goes y p b n memory did ⊎ (Waits y p b k n h memory did ⊎ (Signals y p b k n h memory did ⊎ (Creates y p b k n h memory did ⊎ Pauses y p b k n h memory did)))
+    Goes y p b n memory did
+    ⊎ (Waits y p b k n h memory did ⊎ (Signals y p b k n h memory did ⊎ (Creates y p b k n h memory did ⊎ (Pauses y p b k n h memory did ⊎ Answers y p b k n h memory did))))
 
 -- The word of a place obeys, whatever is in RAM besides the guarded word.
 pub record IsObeyed (y : System) (p k : ℕ) (r : Row) : Type 0 where

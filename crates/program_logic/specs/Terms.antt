@@ -1,10 +1,10 @@
 -- Terms in a count, and what is known of the registers and of the guarded word by terms.
-use Rattle.std.specs.Prelude.{ℕ, ◌+◌, ◌*◌, ◌%◌, ◌^◌, ◌==◌, not, ◌&&◌, if◌then◌else◌, Bool, true, false, List, [], ◌∷◌, replicate, get_or, slice_set}
+use Rattle.std.specs.Prelude.{ℕ, ◌+◌, ◌*◌, ◌%◌, ◌^◌, ◌==◌, not, ◌&&◌, if◌then◌else◌, Bool, true, false, List, [], ◌∷◌, replicate, get_or, slice_set, Option, None, Some, option_map}
 use Rattle.program_logic.specs.declared.knowledge.Facts.{Facts}
 use Rattle.program_logic.specs.declared.values.Slot.{Slot}
 use Rattle.program_logic.specs.declared.values.Slot.TheVariants.{Known, Unknown}
 use Rattle.program_logic.specs.declared.values.Term.{Term}
-use Rattle.xinu_model.specs.Isa.Effects.{wrapped}
+use Rattle.xinu_model.specs.Isa.Effects.{minus, shift_left, wrapped}
 
 -- the value of a term at a count, modulo 2^32
 abbrev pub value : Term → ℕ → ℕ
@@ -26,6 +26,29 @@ slots_added (Known a) (Known b) = Known (added a b)
 slots_added (Known a) Unknown = Unknown
 slots_added Unknown b = Unknown
 
+-- the difference of two terms, and what is known of a difference
+abbrev pub taken : Term → Term → Term
+taken a b = record { times = minus a.times (wrapped b.times); plus = minus a.plus (wrapped b.plus) }
+
+abbrev pub slots_taken : Slot → Slot → Slot
+slots_taken (Known a) (Known b) = Known (taken a b)
+slots_taken (Known a) Unknown = Unknown
+slots_taken Unknown b = Unknown
+
+-- a term that is shifted left, and what is known of a value that is shifted by an amount, if that is known
+abbrev pub shifted : Term → ℕ → Term
+shifted a n = record { times = shift_left a.times n; plus = shift_left a.plus n }
+
+abbrev pub slot_shifted : Slot → Option ℕ → Slot
+slot_shifted (Known a) (Some n) = Known (shifted a n)
+slot_shifted (Known a) None = Unknown
+slot_shifted Unknown n = Unknown
+
+-- the number that a value is known to be
+abbrev pub number_in : Slot → Option ℕ
+number_in Unknown = None
+number_in (Known t) = if t.times == 0 then Some (wrapped t.plus) else None
+
 -- whether a value is known to be this number
 abbrev pub is_constant : Slot → ℕ → Bool
 is_constant Unknown c = false
@@ -41,6 +64,23 @@ abbrev pub differ : Slot → Slot → Bool
 differ (Known a) (Known b) = ((a.times == 0) && (b.times == 0)) && not (wrapped a.plus == wrapped b.plus)
 differ (Known a) Unknown = false
 differ Unknown b = false
+
+-- whether two values are equal, if that is known
+abbrev pub are_equal : Slot → Slot → Option Bool
+are_equal a b = if are_same a b then Some true else if differ a b then Some false else None
+
+-- whether two numbers stand in a relation, if they are known
+abbrev pub compared_of : (ℕ → ℕ → Bool) → Option ℕ → Option ℕ → Option Bool
+compared_of test (Some a) (Some b) = Some (test a b)
+compared_of test (Some a) None = None
+compared_of test None b = None
+
+abbrev pub compared : (ℕ → ℕ → Bool) → Slot → Slot → Option Bool
+compared test a b = compared_of test (number_in a) (number_in b)
+
+-- the contrary of what is known
+abbrev pub negated : Option Bool → Option Bool
+negated known = option_map not known
 
 -- what stays known when the count isn't: numbers
 abbrev pub fixed : Slot → Slot

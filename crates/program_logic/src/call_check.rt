@@ -1,4 +1,5 @@
-//! What a call leads to: `wait`, which grants the token, `signal`, which gives it back, `semcreate`, `yield` and `sleepms`.
+//! What a call leads to: `wait`, which grants the token, `signal`, which gives it back, `semcreate`, `yield` and `sleepms`, and calls that only
+//! answer.
 
 ghost use Rattle.std.specs.Prelude.{◌≡◌, ◌<◌, length};
 ghost use Rattle.program_logic.specs.PlaceCheck as places;
@@ -61,6 +62,22 @@ fn sleep_checks(table: &[Place], k: usize, held: bool, facts: &Facts) -> bool
         && follows(table, held, k + 1, &given(facts, 10, constant(0)))
 }
 
+/// Whether it is known to be the number of a call that only answers: `getpid`, `getprio`, `semcount` or `clktime`.
+pub fn only_answers(number: Slot) -> bool
+    ensures { result ≡ places.only_answers number }
+{
+    is_constant(number, 1)
+        || (is_constant(number, 8) || (is_constant(number, 17) || is_constant(number, 27)))
+}
+
+fn answer_checks(table: &[Place], k: usize, held: bool, facts: &Facts) -> bool
+    requires { k < length table.now }
+    ensures { result ≡ places.answer_checks table.now k held facts.now }
+{
+    only_answers(slot_of(facts, 17))
+        && follows(table, held, k + 1, &given(facts, 10, Slot::Unknown))
+}
+
 // Whether it is one of these calls, and what is known where it leads is known there.
 pub(crate) fn call_checks(lock: &Lock, table: &[Place], k: usize, held: bool, facts: &Facts) -> bool
     requires { k < length table.now }
@@ -69,5 +86,7 @@ pub(crate) fn call_checks(lock: &Lock, table: &[Place], k: usize, held: bool, fa
     wait_checks(lock, table, k, held, facts)
         || (signal_checks(lock, table, k, held, facts)
             || (create_checks(table, k, held, facts)
-                || (yield_checks(table, k, held, facts) || sleep_checks(table, k, held, facts))))
+                || (yield_checks(table, k, held, facts)
+                    || (sleep_checks(table, k, held, facts)
+                        || answer_checks(table, k, held, facts)))))
 }

@@ -3,6 +3,7 @@
 ghost use Rattle.std.specs.Prelude.{◌≡◌};
 ghost use Rattle.program_logic.specs.PlaceCheck as places;
 ghost use Rattle.program_logic.specs.Terms as terms;
+ghost use Rattle.xinu_model.specs.Isa.Effects.{less, less_unsigned};
 
 /// A number of times the count, and a number more.
 #[derive(Clone, Copy)]
@@ -33,7 +34,7 @@ pub fn constant(number: u32) -> Slot
 }
 
 /// What is known of a sum.
-pub fn slots_added(a: Slot, b: Slot) -> Slot
+pub(crate) fn slots_added(a: Slot, b: Slot) -> Slot
     ensures { result ≡ terms.slots_added a b }
 {
     match (a, b) {
@@ -42,6 +43,42 @@ pub fn slots_added(a: Slot, b: Slot) -> Slot
             plus: a.plus.wrapping_add(b.plus),
         }),
         _ => Slot::Unknown,
+    }
+}
+
+/// What is known of a difference.
+pub(crate) fn slots_taken(a: Slot, b: Slot) -> Slot
+    ensures { result ≡ terms.slots_taken a b }
+{
+    match (a, b) {
+        (Slot::Known(a), Slot::Known(b)) => Slot::Known(Term {
+            times: a.times.wrapping_sub(b.times),
+            plus: a.plus.wrapping_sub(b.plus),
+        }),
+        _ => Slot::Unknown,
+    }
+}
+
+/// What is known of a value that is shifted left by an amount, if that is known.
+pub(crate) fn slot_shifted(slot: Slot, amount: Option<u32>) -> Slot
+    ensures { result ≡ terms.slot_shifted slot amount }
+{
+    match (slot, amount) {
+        (Slot::Known(a), Some(amount)) => Slot::Known(Term {
+            times: a.times.wrapping_shl(amount),
+            plus: a.plus.wrapping_shl(amount),
+        }),
+        _ => Slot::Unknown,
+    }
+}
+
+/// The number that a value is known to be.
+pub fn number_in(slot: Slot) -> Option<u32>
+    ensures { result ≡ terms.number_in slot }
+{
+    match slot {
+        Slot::Known(t) if t.times == 0 => Some(t.plus),
+        _ => None,
     }
 }
 
@@ -76,12 +113,55 @@ pub fn are_same(a: Slot, b: Slot) -> bool
 }
 
 /// Whether two values are known to be two numbers that differ.
-pub fn differ(a: Slot, b: Slot) -> bool
+pub(crate) fn differ(a: Slot, b: Slot) -> bool
     ensures { result ≡ terms.differ a b }
 {
     match (a, b) {
         (Slot::Known(a), Slot::Known(b)) => a.times == 0 && b.times == 0 && a.plus != b.plus,
         _ => false,
+    }
+}
+
+/// Whether two values are equal, if that is known.
+pub(crate) fn are_equal(a: Slot, b: Slot) -> Option<bool>
+    ensures { result ≡ terms.are_equal a b }
+{
+    if are_same(a, b) {
+        Some(true)
+    } else if differ(a, b) {
+        Some(false)
+    } else {
+        None
+    }
+}
+
+/// Whether one value is less than another, as signed numbers, if that is known.
+pub(crate) fn is_less(a: Slot, b: Slot) -> Option<bool>
+    ensures { result ≡ terms.compared less a b }
+{
+    match (number_in(a), number_in(b)) {
+        (Some(a), Some(b)) => Some(a.cast_signed() < b.cast_signed()),
+        _ => None,
+    }
+}
+
+/// The same, as unsigned numbers.
+pub(crate) fn is_below(a: Slot, b: Slot) -> Option<bool>
+    ensures { result ≡ terms.compared less_unsigned a b }
+{
+    match (number_in(a), number_in(b)) {
+        (Some(a), Some(b)) => Some(a < b),
+        _ => None,
+    }
+}
+
+/// The contrary of what is known.
+pub(crate) fn negated(known: Option<bool>) -> Option<bool>
+    ensures { result ≡ terms.negated known }
+{
+    match known {
+        Some(holds) => Some(!holds),
+        None => None,
     }
 }
 

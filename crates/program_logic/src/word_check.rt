@@ -3,111 +3,96 @@
 ghost use Rattle.std.specs.Prelude.{◌≡◌, ◌<◌, ◌+◌, ◌*◌, ◌^◌, length};
 ghost use Rattle.program_logic.specs.PlaceCheck as places;
 
+use crate::acts::{Act, act_of};
 use crate::call_check::call_checks;
-use crate::knowledge::{Facts, given, slot_of};
+use crate::knowledge::{Facts, given};
 use crate::outline::{Lock, Place, follows, leads};
-use crate::values::{Slot, are_same, constant, differ, is_constant, slots_added};
+use crate::transfer_check::{load_checks, store_checks};
+use crate::values::constant;
 use rv_isa::{Instr, decode};
 
-// A branch that is taken if two registers differ.
-fn unequal_checks(
+// A branch, whose condition may be known.
+fn branch_checks(
     first: u32,
     table: &[Place],
     k: usize,
     held: bool,
-    rs1: u8,
-    rs2: u8,
-    imm: u32,
+    offset: u32,
+    holds: Option<bool>,
     facts: &Facts,
 ) -> bool
     requires within { k < length table.now }
     requires low { first + 4 * length table.now < 2 ^ 32 }
-    ensures { result ≡ places.unequal_checks first table.now k held rs1 rs2 imm facts.now }
+    ensures { result ≡ places.branch_checks first table.now k held offset holds facts.now }
 {
-    let a = slot_of(facts, rs1);
-    let b = slot_of(facts, rs2);
     let pc = first + 4 * (k as u32);
-    let target = pc.wrapping_add(imm);
-    (are_same(a, b) || leads(first, table, held, target, facts))
-        && (differ(a, b) || follows(table, held, k + 1, facts))
+    let target = pc.wrapping_add(offset);
+    match holds {
+        Some(true) => leads(first, table, held, target, facts),
+        Some(false) => follows(table, held, k + 1, facts),
+        None => { leads(first, table, held, target, facts) && follows(table, held, k + 1, facts) }
+    }
 }
 
-// One that is taken if they are equal.
-fn equal_checks(
+// A jump, whose target may be known.
+fn jump_checks(
     first: u32,
-    table: &[Place],
-    k: usize,
-    held: bool,
-    rs1: u8,
-    rs2: u8,
-    imm: u32,
-    facts: &Facts,
-) -> bool
-    requires within { k < length table.now }
-    requires low { first + 4 * length table.now < 2 ^ 32 }
-    ensures { result ≡ places.equal_checks first table.now k held rs1 rs2 imm facts.now }
-{
-    let a = slot_of(facts, rs1);
-    let b = slot_of(facts, rs2);
-    let pc = first + 4 * (k as u32);
-    let target = pc.wrapping_add(imm);
-    (differ(a, b) || leads(first, table, held, target, facts))
-        && (are_same(a, b) || follows(table, held, k + 1, facts))
-}
-
-// A load of the guarded word.
-fn load_checks(
-    lock: &Lock,
     table: &[Place],
     k: usize,
     held: bool,
     rd: u8,
-    address: Slot,
+    target: Option<u32>,
     facts: &Facts,
 ) -> bool
-    requires { k < length table.now }
-    ensures { result ≡ places.load_checks lock.now table.now k held rd address facts.now }
+    requires within { k < length table.now }
+    requires low { first + 4 * length table.now < 2 ^ 32 }
+    ensures { result ≡ places.jump_checks first table.now k held rd target facts.now }
 {
-    is_constant(address, lock.word)
-        && held
-        && follows(table, held, k + 1, &given(facts, rd, facts.word))
+    let pc = first + 4 * (k as u32);
+    match target {
+        Some(target) => leads(
+            first,
+            table,
+            held,
+            target,
+            &given(facts, rd, constant(pc.wrapping_add(4))),
+        ),
+        None => false,
+    }
 }
 
-// A store into it.
-fn store_checks(
+// What an instruction does leads to places.
+fn act_checks(
     lock: &Lock,
+    first: u32,
     table: &[Place],
     k: usize,
     held: bool,
-    value: Slot,
-    address: Slot,
+    act: Act,
     facts: &Facts,
 ) -> bool
-    requires { k < length table.now }
-    ensures { result ≡ places.store_checks lock.now table.now k held value address facts.now }
+    requires within { k < length table.now }
+    requires low { first + 4 * length table.now < 2 ^ 32 }
+    ensures { result ≡ places.act_checks lock.now first table.now k held act facts.now }
 {
-    is_constant(address, lock.word)
-        && held
-        && follows(
-            table,
-            held,
-            k + 1,
-            &Facts {
-                registers: facts.registers,
-                word: value,
-            },
-        )
+    match act {
+        Act::Sets(rd, value) => follows(table, held, k + 1, &given(facts, rd, value)),
+        Act::Branches(offset, holds) => {
+            branch_checks(first, table, k, held, offset, holds, facts)
+        }
+        Act::Jumps(rd, target) => jump_checks(first, table, k, held, rd, target, facts),
+        Act::Loads(rd, width, address) => {
+            load_checks(lock, table, k, held, rd, width, address, facts)
+        }
+        Act::Stores(width, value, address) => {
+            store_checks(lock, table, k, held, width, value, address, facts)
+        }
+        Act::Passes => follows(table, held, k + 1, facts),
+        Act::Calls => call_checks(lock, table, k, held, facts),
+        Act::Stops => false,
+    }
 }
 
-// A register takes a value.
-fn value_checks(table: &[Place], k: usize, held: bool, rd: u8, value: Slot, facts: &Facts) -> bool
-    requires { k < length table.now }
-    ensures { result ≡ places.value_checks table.now k held rd value facts.now }
-{
-    follows(table, held, k + 1, &given(facts, rd, value))
-}
-
-// What an instruction leads to.
 fn checks_instr(
     lock: &Lock,
     first: u32,
@@ -123,78 +108,11 @@ fn checks_instr(
 {
     let pc = first + 4 * (k as u32);
     match instruction {
-        Some(Instr::Addi { rd, rs1, imm }) => value_checks(
-            table,
-            k,
-            held,
-            rd,
-            slots_added(slot_of(facts, rs1), constant(imm.cast_unsigned())),
-            facts,
-        ),
-        Some(Instr::Add { rd, rs1, rs2 }) => value_checks(
-            table,
-            k,
-            held,
-            rd,
-            slots_added(slot_of(facts, rs1), slot_of(facts, rs2)),
-            facts,
-        ),
-        Some(Instr::Lui { rd, imm }) => value_checks(
-            table,
-            k,
-            held,
-            rd,
-            constant(imm.cast_unsigned()),
-            facts,
-        ),
-        Some(Instr::Lw { rd, rs1, imm }) => load_checks(
-            lock,
-            table,
-            k,
-            held,
-            rd,
-            slots_added(slot_of(facts, rs1), constant(imm.cast_unsigned())),
-            facts,
-        ),
-        Some(Instr::Sw { rs1, rs2, imm }) => store_checks(
-            lock,
-            table,
-            k,
-            held,
-            slot_of(facts, rs2),
-            slots_added(slot_of(facts, rs1), constant(imm.cast_unsigned())),
-            facts,
-        ),
-        Some(Instr::Bne { rs1, rs2, imm }) => unequal_checks(
-            first,
-            table,
-            k,
-            held,
-            rs1,
-            rs2,
-            imm.cast_unsigned(),
-            facts,
-        ),
-        Some(Instr::Beq { rs1, rs2, imm }) => equal_checks(
-            first,
-            table,
-            k,
-            held,
-            rs1,
-            rs2,
-            imm.cast_unsigned(),
-            facts,
-        ),
-        Some(Instr::Jal { rd, imm }) => rd == 0
-            && leads(
-                first,
-                table,
-                held,
-                pc.wrapping_add(imm.cast_unsigned()),
-                facts,
-            ),
-        Some(Instr::Ecall) => call_checks(lock, table, k, held, facts),
-        _ => false,
+        None => false,
+        Some(instruction) => {
+            let act = act_of(instruction, pc, facts);
+            act_checks(lock, first, table, k, held, act, facts)
+        }
     }
 }
 
