@@ -1,3 +1,6 @@
 pub mod Files
+pub mod Judged
+pub mod Marks
+pub mod Numbers
 pub mod Proved
 pub mod WordsThere

@@ -15,9 +15,9 @@ pub enum Cause {
     Gives,
     /// It gives back the lock while the word is this.
     Leaves(Slot),
-    /// It reads at this address, which isn't that of the guarded word.
+    /// It reads at this address, which isn't known, or where a load traps.
     ReadsAt(Slot),
-    /// It writes at this address.
+    /// It writes at this address, which isn't known, or doesn't lie behind the guarded word.
     WritesAt(Slot),
     /// It waits on or signals this semaphore, which isn't the lock.
     OtherSemaphore(Slot),
@@ -31,6 +31,8 @@ pub enum Cause {
     Call(Slot),
     /// Its instruction isn't one of those that are followed.
     Instruction,
+    /// It goes to an address that isn't known.
+    Goes,
     /// It goes to an address that is no place of the program.
     Target(u32),
     /// There is no word of a program.

@@ -1,13 +1,24 @@
 //! The command: its arguments are read, the images are fetched, and what is answered of them is told.
 
-ghost use Rattle.std.specs.Prelude.{◌≡◌, ◌≤◌, IfOk, length, map};
-ghost use Rattle.prove_command.specs.Named.{IsProvedIn, IsProvedOf};
+ghost use Rattle.std.specs.Prelude.{◌≡◌, ◌≤◌, IfErr, IfOk, length, map};
+ghost use Rattle.std.specs.String.{string_bytes};
+ghost use Rattle.image_loader.specs.Images.{loaded_of};
+ghost use Rattle.prove_command.specs.Proved.{IsProved};
+ghost use Rattle.prove_command.specs.Reading.{asked_of};
+ghost use Rattle.prove_command.specs.Theorem as spec;
+ghost use Rattle.prove_command.specs.Words.{asked};
+ghost use Rattle.xinu_model.specs.Boot as model;
+ghost use Rattle.xinu_model.specs.Boot.{Boots};
+ghost use Rattle.xinu_model.specs.Machine.{Xinu};
 
+use crate::causes::Fault;
 use crate::fetching::{fetch_files, images_in};
 use crate::proving::{Answer, prove_images};
+use crate::sending::send;
 use crate::telling::{tell_fault, tell_proof, tell_unchecked};
-use crate::words::read_words;
-use host_port::{Channel, Host};
+use crate::words::{Words, words_of};
+use host_port::Host;
+use image_loader::Image;
 use printed_runs::Text;
 use program_logic::Lock;
 use run_inputs::{Refusal, refuse};
@@ -22,7 +33,10 @@ const NOT_FOLLOWED: u8 = 14;
 ///
 /// The status is 0 if it is proved, 10 if the rule of the lock is broken on some way, and 14 if something isn't covered. Else it is the status with
 /// which `run` refuses such arguments and images, and its text is sent on Fault.
-pub fn prove<H: Host>(alloc: Global, args: &[String], host: &mut H) -> u8 {
+pub fn prove<H: Host>(alloc: Global, args: &[String], host: &mut H) -> u8
+    ensures proved { result ≡ 0 → spec.ProvesAsked (map string_bytes args.now) (H.view host.old).file }
+    ensures answers { spec.Answers result (map string_bytes args.now) (H.view host.old) (H.view host.new) }
+{
     match carry_out(alloc, args, host) {
         Ok(status) => status,
         Err(refusal) => refuse(refusal, host),
@@ -30,67 +44,102 @@ pub fn prove<H: Host>(alloc: Global, args: &[String], host: &mut H) -> u8 {
 }
 
 // Carries the command out.
-fn carry_out<H: Host>(alloc: Global, args: &[String], host: &mut H) -> Result<u8, Refusal> {
-    let mut names = Vec::new(alloc);
-    obey(alloc, args, &mut names, host)
-}
-
-// Carries the command out, with a list for the names of images.
-fn obey<'a, H: Host>(
-    alloc: Global,
-    args: &'a [String],
-    names: &mut Vec<&'a str>,
-    host: &mut H,
-) -> Result<u8, Refusal> {
-    match read_words(alloc, args, names) {
-        Ok(Some(lock)) => prove_files(alloc, &lock, names.as_slice(), host),
+fn carry_out<H: Host>(alloc: Global, args: &[String], host: &mut H) -> Result<u8, Refusal>
+    ensures carries { spec.Carries (asked (map string_bytes args.now)) result (H.view host.old) (H.view host.new) }
+{
+    match words_of(alloc, args) {
+        Ok(Some(words)) => obey(alloc, &words, host),
         Ok(None) => Err(Refusal::Usage),
         Err(_) => Err(Refusal::NoMemory),
     }
 }
 
-// Fetches the images, and sends what is answered of them.
-fn prove_files<H: Host>(
-    alloc: Global,
-    lock: &Lock,
-    names: &[&str],
-    host: &mut H,
-) -> Result<u8, Refusal>
-    requires few { length names.now ≤ 8 }
-    ensures proved { IfOk result (λ status. status ≡ 0 → IsProvedOf lock.now (map (λ s. s.now) names.now) (H.view host.old).file) }
+// Does what is asked.
+fn obey<H: Host>(alloc: Global, words: &Words, host: &mut H) -> Result<u8, Refusal>
+    requires few { length words.now.images.items ≤ 8 }
+    ensures obeys { spec.Obeys (asked_of words.now) result (H.view host.old) (H.view host.new) }
 {
-    let mut files = Vec::new(alloc);
-    fetch_files(alloc, names, &mut files, host)?;
-    let (status, text) = answered(alloc, lock, names, files.as_slice())?;
-    match text.whole() {
-        Ok(text) => host.emit(Channel::Out, text.as_bytes())?,
-        Err(_) => return Err(Refusal::NoMemory),
+    match fetch_files(alloc, words.images.as_slice(), host) {
+        Ok(files) => judge(
+            alloc,
+            &words.lock,
+            words.images.as_slice(),
+            files.as_slice(),
+            host,
+        ),
+        Err(cause) => Err(cause),
     }
-    Ok(status)
 }
 
-// The status and the text that are answered of the images in these files.
+// Sends what is answered of the images in these files.
+fn judge<H: Host>(
+    alloc: Global,
+    lock: &Lock,
+    names: &[String],
+    files: &[Vec<u8>],
+    host: &mut H,
+) -> Result<u8, Refusal>
+    requires few { length files.now ≤ 8 }
+    ensures judges { spec.Judges lock.now (map (λ file. file.items) files.now) result (H.view host.old) (H.view host.new) }
+{
+    match answered(alloc, lock, names, files) {
+        Ok((status, text)) => send(alloc, status, text, host),
+        Err(cause) => Err(cause),
+    }
+}
+
+// The status and the text, after its head, that are answered of the images in these files.
 fn answered(
     alloc: Global,
     lock: &Lock,
-    names: &[&str],
+    names: &[String],
     files: &[Vec<u8>],
 ) -> Result<(u8, Text), Refusal>
     requires few { length files.now ≤ 8 }
-    ensures proved { IfOk result (λ a. a.0 ≡ 0 → IsProvedIn lock.now (map (λ file. file.items) files.now)) }
+    ensures answered { IfOk result (λ a. spec.AreAnswered lock.now (map (λ file. file.items) files.now) a.0) }
+    ensures refused { IfErr result (spec.AreRefused (map (λ file. file.items) files.now)) }
 {
-    let images = images_in(alloc, files)?;
+    match images_in(alloc, files) {
+        Ok(images) => answer(alloc, lock, names, images.as_slice()),
+        Err(cause) => Err(cause),
+    }
+}
+
+// The same of images that load.
+fn answer(
+    alloc: Global,
+    lock: &Lock,
+    names: &[String],
+    images: &[Image<'_>],
+) -> Result<(u8, Text), Refusal>
+    requires few { length images.now ≤ 8 }
+    ensures boots { IfOk result (λ a. (start : Xinu) × (model.boot (map loaded_of images.now) ≡ Boots start)) }
+    ensures proved { IfOk result (λ a. a.0 ≡ 0 → IsProved lock.now (map loaded_of images.now)) }
+    ensures refused { IfErr result (spec.AreUnbooted (map loaded_of images.now)) }
+{
     let mut table = Vec::new(alloc);
     let mut ranges = Vec::new(alloc);
-    match prove_images(alloc, images.as_slice(), lock, &mut table, &mut ranges)? {
-        Answer::Proved => Ok((
+    match prove_images(alloc, images, lock, &mut table, &mut ranges) {
+        Ok(Answer::Proved) => Ok((
             0,
             tell_proof(alloc, lock, names, table.as_slice(), ranges.as_slice()),
         )),
-        Answer::Stopped(fault) if fault.cause.breaks_the_rule() => {
-            Ok((NOT_PROVED, tell_fault(alloc, lock, names, &fault)))
-        }
-        Answer::Stopped(fault) => Ok((NOT_FOLLOWED, tell_fault(alloc, lock, names, &fault))),
-        Answer::Unchecked => Ok((NOT_FOLLOWED, tell_unchecked(alloc, lock))),
+        Ok(Answer::Stopped(fault)) => Ok((
+            status_of(&fault),
+            tell_fault(alloc, lock, names, &fault),
+        )),
+        Ok(Answer::Unchecked) => Ok((NOT_FOLLOWED, tell_unchecked(alloc, lock))),
+        Err(cause) => Err(cause),
+    }
+}
+
+// The status of a fault at which the walk stopped.
+fn status_of(fault: &Fault) -> u8
+    ensures some { result ≡ 0 → ⊥ }
+{
+    if fault.cause.breaks_the_rule() {
+        NOT_PROVED
+    } else {
+        NOT_FOLLOWED
     }
 }

@@ -6,8 +6,11 @@
 //!
 //! | Call | Promise |
 //! |---|---|
-//! | [`prove`] | carries the command out: sends what is answered, and answers the exit status |
-//! | [`prove_images`] | `proved`: if it answers `Proved` the images boot on any disks, and from there, on every schedule and at each moment, whenever nobody has the token the guarded word is what the rule says, and each process is alive (`IsProved` in `specs/Proved.antt`) |
+//! | [`prove`] | `proved`: if it answers 0 the images that the arguments name boot, and keep the rule of the lock that they name on every schedule, with no premise (`ProvesAsked`); `answers`: what was asked was done, each status has its cause, exactly the files of the images were fetched, and but for the text that was sent the host is as it was (`Answers`, both in `specs/Theorem.antt`) |
+//! | [`prove_images`] | `proved`: if it answers `Proved` the images boot on any disks, and from there, on every schedule and at each moment, whenever nobody has the token the guarded word is what the rule says, and each process is alive (`IsProved` in `specs/Proved.antt`); `boots`, `refused`: it refuses exactly images that don't boot |
+//!
+//! What the arguments ask is a definition (`asked` in `specs/Words.antt`), and so is what the text of a rule says (`rule_in` in `specs/Rules.antt`).
+//! The text of status 0 begins with `proved: `, that of 10 with `not proved: `, and that of 14 with `cannot follow: `. `NoMemory` is free.
 //!
 //! An answer other than `Proved` doesn't say that a program is wrong.
 #![tactic(auto)]
@@ -18,6 +21,7 @@ mod fetching;
 mod judging;
 mod proving;
 mod rule;
+mod sending;
 mod steps;
 mod telling;
 mod walk;

@@ -1,8 +1,9 @@
 //! A proof for images: they boot, a walk finds what is known at each of their places, and that is judged.
 
-ghost use Rattle.std.specs.Prelude.{◌≡◌, ◌≤◌, IfOk, length, map};
+ghost use Rattle.std.specs.Prelude.{◌≡◌, ◌≤◌, IfErr, IfOk, length, map};
 ghost use Rattle.image_loader.specs.Images.{loaded_of};
 ghost use Rattle.prove_command.specs.Proved.{IsProved};
+ghost use Rattle.prove_command.specs.Theorem.{AreUnbooted};
 ghost use Rattle.xinu_model.specs.Boot as model;
 ghost use Rattle.xinu_model.specs.Boot.{Boots};
 ghost use Rattle.xinu_model.specs.Machine.{Xinu};
@@ -42,8 +43,13 @@ pub fn prove_images(
 ) -> Result<Answer, Refusal>
     requires few { length images.now ≤ 8 }
     ensures proved { IfOk result (λ answer. answer ≡ Answer.Proved → IsProved lock.now (map loaded_of images.now)) }
+    ensures boots { IfOk result (λ _. (start : Xinu) × (model.boot (map loaded_of images.now) ≡ Boots start)) }
+    ensures refused { IfErr result (AreUnbooted (map loaded_of images.now)) }
 {
-    boots(alloc, images)?;
+    match boots(alloc, images) {
+        Ok(()) => {}
+        Err(cause) => return Err(cause),
+    }
     let Ok(mut ram) = Ram::new(alloc) else {
         return Err(Refusal::NoMemory);
     };
@@ -70,9 +76,14 @@ pub fn prove_images(
 fn boots(alloc: Global, images: &[Image<'_>]) -> Result<(), Refusal>
     requires few { length images.now ≤ 8 }
     ensures boots { IfOk result (λ _. (start : Xinu) × (model.boot (map loaded_of images.now) ≡ Boots start)) }
+    ensures refused { IfErr result (AreUnbooted (map loaded_of images.now)) }
 {
-    let disk0 = raw_disk(alloc, None)?;
-    let disk1 = clean_disk(alloc, None)?;
+    let Ok(disk0) = raw_disk(alloc, None) else {
+        return Err(Refusal::NoMemory);
+    };
+    let Ok(disk1) = clean_disk(alloc, None) else {
+        return Err(Refusal::NoMemory);
+    };
     let _state = match boot(alloc, images, disk0, disk1) {
         Ok(state) => state,
         Err(fault) => return Err(Refusal::from(fault)),

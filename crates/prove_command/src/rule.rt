@@ -1,148 +1,145 @@
-//! A rule in words: a sum of numbers, `rounds`, and a number times `rounds`.
+//! A rule in words: an item, the sum of two or the difference of two; an item is a number, `rounds`, or a number times `rounds`.
+
+ghost use Rattle.std.specs.Prelude.{◌≡◌, ◌<◌, if◌then◌else◌, option_map};
+ghost use Rattle.program_logic.specs.Terms as terms;
+ghost use Rattle.prove_command.specs.Rules as rules;
+ghost use Rattle.run_inputs.specs.Numbers as numbers;
 
 use program_logic::Term;
+use run_inputs::number;
 
-/// The term that a rule says, as `rounds`, `3 * rounds` or `100 - rounds`, if it says one. Numbers have up to nine digits.
-pub(crate) fn rule_in(text: &str) -> Option<Term> {
-    let mut reading = Reading {
-        term: Term { times: 0, plus: 0 },
-        item: Item::None,
-        is_less: false,
-        is_times: false,
-    };
-    for byte in text.as_bytes() {
-        reading = reading.read(*byte)?;
+/// The greatest number of a rule.
+const GREATEST: u64 = 999_999_999;
+
+/// The term that a rule says, as `rounds`, `3 * rounds` or `100 - rounds`, if it says one. A space may stand on either side of a sign.
+#[tactic(auto, unfolding(crate::specs::Rules::rule_in))]
+pub(crate) fn rule_in(text: &str) -> Option<Term>
+    ensures rule { result ≡ rules.rule_in text.now }
+{
+    match parts_at(text, '+') {
+        Some((first, second)) => {
+            let first = item_in(first)?;
+            let second = item_in(second)?;
+            Some(sum(first, second))
+        }
+        None => difference_in(text),
     }
-    if reading.is_times {
-        return None;
-    }
-    Some(reading.added()?.term)
 }
 
-/// What was read of an item of the sum.
-#[derive(Clone, Copy)]
-enum Item {
-    None,
-    /// A number, and how many digits it has.
-    Number(u32, u8),
-    /// A number of times the rounds, and how many letters of `rounds` were read.
-    Rounds(u32, u8),
+// An item, or the difference of two.
+fn difference_in(text: &str) -> Option<Term>
+    ensures difference { result ≡ rules.difference_by (rules.parts_at 45 text.now) text.now }
+{
+    match parts_at(text, '-') {
+        Some((first, second)) => {
+            let first = item_in(first)?;
+            let second = item_in(second)?;
+            Some(difference(first, second))
+        }
+        None => item_in(text),
+    }
 }
 
-/// What was read so far: the sum before the item, the item, whether it is taken away, and whether a `*` came after its number.
-#[derive(Clone, Copy)]
-struct Reading {
-    term: Term,
-    item: Item,
-    is_less: bool,
-    is_times: bool,
-}
-
-const ROUNDS: [u8; 6] = *b"rounds";
-
-impl Reading {
-    // Reads a byte more.
-    fn read(self, byte: u8) -> Option<Reading> {
-        match byte {
-            b' ' => self.spaced(),
-            b'+' => self.sign(false),
-            b'-' => self.sign(true),
-            b'*' => self.star(),
-            b'0'..=b'9' => self.digit(byte - b'0'),
-            _ => self.letter(byte),
-        }
-    }
-
-    // A space stands between words alone.
-    fn spaced(self) -> Option<Reading> {
-        match self.item {
-            Item::Rounds(_, letters) if letters < 6 => None,
-            Item::Number(number, _) => Some(Reading {
-                item: Item::Number(number, 9),
-                ..self
-            }),
-            _ => Some(self),
-        }
-    }
-
-    // A digit of a number.
-    fn digit(self, digit: u8) -> Option<Reading> {
-        let item = match self.item {
-            Item::None => Item::Number(digit as u32, 1),
-            Item::Number(number, digits) if digits < 9 && !self.is_times => Item::Number(
-                number.wrapping_mul(10).wrapping_add(digit as u32),
-                digits + 1,
-            ),
-            _ => return None,
-        };
-        Some(Reading { item, ..self })
-    }
-
-    // A letter of `rounds`, after a number and a `*`, or by itself.
-    fn letter(self, letter: u8) -> Option<Reading> {
-        let (times, letters) = match self.item {
-            Item::None => (1, 0),
-            Item::Number(number, _) if self.is_times => (number, 0),
-            Item::Rounds(times, letters) if letters < 6 => (times, letters),
-            _ => return None,
-        };
-        if letter != ROUNDS[letters as usize] {
-            return None;
-        }
-        Some(Reading {
-            item: Item::Rounds(times, letters + 1),
-            is_times: false,
-            ..self
-        })
-    }
-
-    // A `*` after a number.
-    fn star(self) -> Option<Reading> {
-        match self.item {
-            Item::Number(_, _) if !self.is_times => Some(Reading {
-                is_times: true,
-                ..self
-            }),
-            _ => None,
-        }
-    }
-
-    // A sign: the item before it is added.
-    fn sign(self, is_less: bool) -> Option<Reading> {
-        if self.is_times {
-            return None;
-        }
-        let is_first = matches!(self.item, Item::None);
-        if is_first && (self.term.times != 0 || self.term.plus != 0 || self.is_less) {
-            return None;
-        }
-        let added = if is_first { self } else { self.added()? };
-        Some(Reading { is_less, ..added })
-    }
-
-    // The item is added to the sum, or taken away.
-    fn added(self) -> Option<Reading> {
-        let (times, plus) = match self.item {
-            Item::Number(number, _) => (0, number),
-            Item::Rounds(times, 6) => (times, 0),
-            _ => return None,
-        };
-        let term = if self.is_less {
-            Term {
-                times: self.term.times.wrapping_sub(times),
-                plus: self.term.plus.wrapping_sub(plus),
+// A number times `rounds`, `rounds`, or a number.
+fn item_in(text: &str) -> Option<Term>
+    ensures item { result ≡ rules.item_in text.now }
+{
+    match parts_at(text, '*') {
+        Some((times, name)) => {
+            if bare(name) != "rounds" {
+                return None;
             }
-        } else {
-            Term {
-                times: self.term.times.wrapping_add(times),
-                plus: self.term.plus.wrapping_add(plus),
-            }
-        };
-        Some(Reading {
-            term,
-            item: Item::None,
-            is_less: false,
-            is_times: false,
-        })
+            let times = number_in(bare(times))?;
+            Some(Term { times, plus: 0 })
+        }
+        None => single_in(bare(text)),
+    }
+}
+
+// `rounds`, or a number.
+fn single_in(text: &str) -> Option<Term>
+    ensures single { result ≡ (if rules.is_rounds text.now then Some (rules.times_rounds 1) else option_map terms.constant (rules.number_in text.now)) }
+{
+    if text == "rounds" {
+        return Some(Term { times: 1, plus: 0 });
+    }
+    let plus = number_in(text)?;
+    Some(Term { times: 0, plus })
+}
+
+// The sum of two terms.
+fn sum(a: Term, b: Term) -> Term
+    ensures sum { result ≡ terms.added a b }
+{
+    Term {
+        times: a.times.wrapping_add(b.times),
+        plus: a.plus.wrapping_add(b.plus),
+    }
+}
+
+// The difference of two terms.
+fn difference(a: Term, b: Term) -> Term
+    ensures difference { result ≡ terms.taken a b }
+{
+    Term {
+        times: a.times.wrapping_sub(b.times),
+        plus: a.plus.wrapping_sub(b.plus),
+    }
+}
+
+/// What stands before the first of a mark and after it, if there is one.
+pub(crate) fn parts_at(text: &str, mark: char) -> Option<(&str, &str)>
+    requires low { mark < 128 }
+    ensures parts { option_map (λ p. (p.0.now, p.1.now)) result ≡ rules.parts_at mark text.now }
+{
+    text.split_once(mark)
+}
+
+// A text without a space in front of it, and without one behind it.
+fn bare(text: &str) -> &str
+    ensures bare { result.now ≡ rules.bare text.now }
+{
+    before_space(after_space(text))
+}
+
+// A text without a space in front of it.
+fn after_space(text: &str) -> &str
+    ensures bare { result.now ≡ rules.after_space text.now }
+{
+    match parts_at(text, ' ') {
+        Some((first, rest)) if first.is_empty() => rest,
+        _ => text,
+    }
+}
+
+// A text without a space behind it.
+fn before_space(text: &str) -> &str
+    ensures bare { result.now ≡ rules.without_last (rules.parts_at 32 text.now) text.now }
+{
+    match parts_at(text, ' ') {
+        Some((rest, last)) if last.is_empty() => rest,
+        _ => text,
+    }
+}
+
+// The number that a text is: 0, or one to ten decimal digits.
+fn number_in(text: &str) -> Option<u32>
+    ensures number { result ≡ rules.number_in text.now }
+{
+    if text == "0" {
+        return Some(0);
+    }
+    small_number(text, GREATEST)
+}
+
+/// The number that decimal digits give, if it is from 1 to a bound.
+#[tactic(auto, using(crate::proofs::Numbers::at_most))]
+pub(crate) fn small_number(text: &str, most: u64) -> Option<u32>
+    requires small { most < 4294967296 }
+    ensures number { result ≡ numbers.number text.now most }
+{
+    match number(text, most) {
+        Some(value) => Some(value as u32),
+        None => None,
     }
 }

@@ -4,10 +4,10 @@ ghost use Rattle.std.specs.Prelude.{◌<◌, ◌^◌};
 
 use crate::causes::Cause;
 use program_logic::{
-    Facts, Lock, Slot, after_call, are_same, constant, differ, given, is_constant, is_ticks,
-    once_more, slot_of, slots_added,
+    Act, Facts, Lock, Slot, Width, act_of, after_call, are_same, constant, given, is_constant,
+    is_guarded, is_ticks, may_load, may_store, number_in, once_more, only_answers, slot_of,
 };
-use rv_isa::{Instr, decode};
+use rv_isa::decode;
 
 /// A place, by its program's first address and its number, and whether a process comes there with the lock.
 #[derive(Clone, Copy)]
@@ -37,49 +37,26 @@ pub(crate) struct Ways {
 /// # Errors
 /// Why it isn't followed.
 pub(crate) fn step(lock: &Lock, spot: Spot, word: u32, facts: &Facts) -> Result<Ways, Cause> {
-    match decode(word) {
-        Some(Instr::Addi { rd, rs1, imm }) => {
-            let sum = slots_added(slot_of(facts, rs1), constant(imm.cast_unsigned()));
-            Ok(next(spot, given(facts, rd, sum)))
-        }
-        Some(Instr::Add { rd, rs1, rs2 }) => {
-            let sum = slots_added(slot_of(facts, rs1), slot_of(facts, rs2));
-            Ok(next(spot, given(facts, rd, sum)))
-        }
-        Some(Instr::Lui { rd, imm }) => {
-            Ok(next(spot, given(facts, rd, constant(imm.cast_unsigned()))))
-        }
-        Some(Instr::Lw { rd, rs1, imm }) => {
-            let address = slots_added(slot_of(facts, rs1), constant(imm.cast_unsigned()));
-            load(lock, spot, rd, address, facts)
-        }
-        Some(Instr::Sw { rs1, rs2, imm }) => {
-            let address = slots_added(slot_of(facts, rs1), constant(imm.cast_unsigned()));
-            store(lock, spot, slot_of(facts, rs2), address, facts)
-        }
-        Some(Instr::Bne { rs1, rs2, imm }) => {
-            let (a, b) = (slot_of(facts, rs1), slot_of(facts, rs2));
-            branch(
+    let Some(instruction) = decode(word) else {
+        return Err(Cause::Instruction);
+    };
+    let pc = spot.first.wrapping_add(spot.place.wrapping_mul(4));
+    match act_of(instruction, pc, facts) {
+        Act::Sets(rd, value) => Ok(next(spot, given(facts, rd, value))),
+        Act::Branches(offset, holds) => branch(spot, pc.wrapping_add(offset), holds, facts),
+        Act::Jumps(rd, Some(target)) => {
+            jump(
                 spot,
-                imm.cast_unsigned(),
-                are_same(a, b),
-                differ(a, b),
-                facts,
+                target,
+                &given(facts, rd, constant(pc.wrapping_add(4))),
             )
         }
-        Some(Instr::Beq { rs1, rs2, imm }) => {
-            let (a, b) = (slot_of(facts, rs1), slot_of(facts, rs2));
-            branch(
-                spot,
-                imm.cast_unsigned(),
-                differ(a, b),
-                are_same(a, b),
-                facts,
-            )
-        }
-        Some(Instr::Jal { rd: 0, imm }) => jump(spot, imm.cast_unsigned(), facts),
-        Some(Instr::Ecall) => call(lock, spot, facts),
-        _ => Err(Cause::Instruction),
+        Act::Jumps(_, None) => Err(Cause::Goes),
+        Act::Loads(rd, width, address) => load(lock, spot, rd, width, address, facts),
+        Act::Stores(width, value, address) => store(lock, spot, width, value, address, facts),
+        Act::Passes => Ok(next(spot, *facts)),
+        Act::Calls => call(lock, spot, facts),
+        Act::Stops => Err(Cause::Instruction),
     }
 }
 
@@ -105,40 +82,58 @@ fn onward(spot: Spot, held: bool, facts: Facts) -> Way {
     }
 }
 
-// A load of the guarded word.
-fn load(lock: &Lock, spot: Spot, rd: u8, address: Slot, facts: &Facts) -> Result<Ways, Cause> {
-    if !is_constant(address, lock.word) {
-        return Err(Cause::ReadsAt(address));
+// A load: what is loaded is known of the guarded word alone.
+fn load(
+    lock: &Lock,
+    spot: Spot,
+    rd: u8,
+    width: Width,
+    address: Slot,
+    facts: &Facts,
+) -> Result<Ways, Cause> {
+    if is_guarded(lock, width, address) {
+        return if spot.held {
+            Ok(next(spot, given(facts, rd, facts.word)))
+        } else {
+            Err(Cause::Reads)
+        };
     }
-    if !spot.held {
+    let number = number_in(address);
+    if may_load(lock, spot.held, number, width) {
+        return Ok(next(spot, given(facts, rd, Slot::Unknown)));
+    }
+    if may_load(lock, true, number, width) {
         return Err(Cause::Reads);
     }
-    Ok(next(spot, given(facts, rd, facts.word)))
+    Err(Cause::ReadsAt(address))
 }
 
-// A store into it.
+// A store into the guarded word, or behind it.
 fn store(
     lock: &Lock,
     spot: Spot,
+    width: Width,
     value: Slot,
     address: Slot,
     facts: &Facts,
 ) -> Result<Ways, Cause> {
-    if !is_constant(address, lock.word) {
-        return Err(Cause::WritesAt(address));
+    if is_guarded(lock, width, address) {
+        if !spot.held {
+            return Err(Cause::Writes);
+        }
+        let mut after = *facts;
+        after.word = value;
+        return Ok(next(spot, after));
     }
-    if !spot.held {
-        return Err(Cause::Writes);
+    if may_store(lock, number_in(address), width) {
+        Ok(next(spot, *facts))
+    } else {
+        Err(Cause::WritesAt(address))
     }
-    let mut after = *facts;
-    after.word = value;
-    Ok(next(spot, after))
 }
 
-// The way to another place, so many bytes on.
-fn far(spot: Spot, offset: u32, facts: &Facts) -> Result<Way, Cause> {
-    let pc = spot.first.wrapping_add(spot.place.wrapping_mul(4));
-    let target = pc.wrapping_add(offset);
+// The way to the place at an address.
+fn far(spot: Spot, target: u32, facts: &Facts) -> Result<Way, Cause> {
     if target < spot.first || (target - spot.first) % 4 != 0 {
         return Err(Cause::Target(target));
     }
@@ -150,26 +145,20 @@ fn far(spot: Spot, offset: u32, facts: &Facts) -> Result<Way, Cause> {
 }
 
 // A jump.
-fn jump(spot: Spot, offset: u32, facts: &Facts) -> Result<Ways, Cause> {
-    match far(spot, offset, facts) {
+fn jump(spot: Spot, target: u32, facts: &Facts) -> Result<Ways, Cause> {
+    match far(spot, target, facts) {
         Ok(first) => Ok(only(first)),
         Err(cause) => Err(cause),
     }
 }
 
-// A branch, which may be known not to be taken, or to be taken.
-fn branch(
-    spot: Spot,
-    offset: u32,
-    never: bool,
-    always: bool,
-    facts: &Facts,
-) -> Result<Ways, Cause> {
-    if never {
+// A branch, of which it may be known whether it is taken.
+fn branch(spot: Spot, target: u32, holds: Option<bool>, facts: &Facts) -> Result<Ways, Cause> {
+    if let Some(false) = holds {
         return Ok(next(spot, *facts));
     }
-    match far(spot, offset, facts) {
-        Ok(first) if always => Ok(only(first)),
+    match far(spot, target, facts) {
+        Ok(first) if holds.is_some() => Ok(only(first)),
         Ok(first) => Ok(Ways {
             first,
             second: Some(onward(spot, spot.held, *facts)),
@@ -205,6 +194,9 @@ fn call(lock: &Lock, spot: Spot, facts: &Facts) -> Result<Ways, Cause> {
         } else {
             Err(Cause::Sleeps(first))
         };
+    }
+    if only_answers(number) {
+        return Ok(next(spot, given(facts, 10, Slot::Unknown)));
     }
     Err(Cause::Call(number))
 }

@@ -1,27 +1,27 @@
-//! What the command says of its answer.
+//! What the command says of its answer, after the head of its status.
 
 use crate::causes::{Cause, Fault};
 use printed_runs::Text;
-use program_logic::{Lock, Place, Range, Slot, Term, once_more};
+use program_logic::{Lock, Place, Range, Slot, Term, number_in, once_more};
 use std::alloc::Global;
 
 /// Images are proved: the rule, how many processes there are, and where each has the lock.
 pub(crate) fn tell_proof(
     alloc: Global,
     lock: &Lock,
-    names: &[&str],
+    names: &[String],
     table: &[Place],
     ranges: &[Range],
 ) -> Text {
     let mut text = Text::new(alloc);
-    text.numbered("proved: the word at ", lock.word as u64);
+    text.numbered("the word at ", lock.word as u64);
     text.put(" = ");
     add_term(&mut text, lock.rule);
     text.numbered(" whenever lock ", lock.sem as u64);
     text.put(" is free, on every schedule, from boot of");
     for name in names {
         text.put(" ");
-        text.put(name);
+        text.put(name.as_str());
     }
     text.numbered(
         "\n  rounds: how often the lock was given back (signal on ",
@@ -36,7 +36,7 @@ pub(crate) fn tell_proof(
     text.put("\n  with the lock:");
     for i in 0..ranges.len() {
         if i < names.len() {
-            add_held(&mut text, names[i], table, &ranges[i]);
+            add_held(&mut text, names[i].as_str(), table, &ranges[i]);
         }
     }
     text.put("\n  without it they never touch the word\n");
@@ -69,13 +69,8 @@ fn add_held(text: &mut Text, name: &str, table: &[Place], range: &Range) {
 }
 
 /// The walk stopped: where, why, and what the rule wants there.
-pub(crate) fn tell_fault(alloc: Global, lock: &Lock, names: &[&str], fault: &Fault) -> Text {
+pub(crate) fn tell_fault(alloc: Global, lock: &Lock, names: &[String], fault: &Fault) -> Text {
     let mut text = Text::new(alloc);
-    if fault.cause.breaks_the_rule() {
-        text.put("not proved: ");
-    } else {
-        text.put("cannot follow: ");
-    }
     text.put(name_of(names, fault.image));
     text.numbered(", address ", fault.address as u64);
     if fault.held {
@@ -99,7 +94,6 @@ pub(crate) fn tell_fault(alloc: Global, lock: &Lock, names: &[&str], fault: &Fau
 /// What the walk found doesn't check.
 pub(crate) fn tell_unchecked(alloc: Global, lock: &Lock) -> Text {
     let mut text = Text::new(alloc);
-    text.put("cannot follow: ");
     if lock.sem == 4 {
         text.numbered("the word at ", lock.word as u64);
         text.put(
@@ -112,9 +106,13 @@ pub(crate) fn tell_unchecked(alloc: Global, lock: &Lock) -> Text {
 }
 
 // The name of an image.
-fn name_of<'a>(names: &[&'a str], image: u8) -> &'a str {
+fn name_of(names: &[String], image: u8) -> &str {
     let at = (image as usize).wrapping_sub(1);
-    if at < names.len() { names[at] } else { "?" }
+    if at < names.len() {
+        names[at].as_str()
+    } else {
+        "?"
+    }
 }
 
 // Adds why a walk stopped.
@@ -125,8 +123,15 @@ fn add_cause(text: &mut Text, lock: &Lock, cause: Cause) {
         Cause::Waits => text.put("it waits for the lock, which it holds: it would wait for itself"),
         Cause::Gives => text.put("it gives back the lock, which it doesn't hold"),
         Cause::Leaves(slot) => add_value(text, "it gives back the lock while the word is ", slot),
-        Cause::ReadsAt(slot) => add_value(text, "it reads at an address that is ", slot),
-        Cause::WritesAt(slot) => add_value(text, "it writes at an address that is ", slot),
+        Cause::ReadsAt(slot) => add_place(text, "it reads at ", slot, ", where a load traps"),
+        Cause::WritesAt(slot) => {
+            add_place(
+                text,
+                "it writes at ",
+                slot,
+                ", which doesn't lie behind the word",
+            )
+        }
         Cause::OtherSemaphore(slot) => {
             text.numbered("it uses a semaphore other than ", lock.sem as u64);
             add_value(text, ": ", slot);
@@ -136,6 +141,7 @@ fn add_cause(text: &mut Text, lock: &Lock, cause: Cause) {
         Cause::Sleeps(slot) => add_value(text, "it sleeps for ticks that are ", slot),
         Cause::Call(slot) => add_value(text, "it makes a call that isn't covered: a7 is ", slot),
         Cause::Instruction => text.put("its instruction isn't covered"),
+        Cause::Goes => text.put("it goes to an address that is unknown"),
         Cause::Target(target) => {
             text.numbered("it goes to ", target as u64);
             text.put(", which is no place of the program");
@@ -144,6 +150,18 @@ fn add_cause(text: &mut Text, lock: &Lock, cause: Cause) {
             "the program goes on there, where its words end or the word of the lock lies",
         ),
         Cause::TooLong => text.put("the programs have over 4096 places"),
+    }
+}
+
+// Adds what is known of an address, and what is said of a known one.
+fn add_place(text: &mut Text, before: &str, slot: Slot, after: &str) {
+    text.put(before);
+    match number_in(slot) {
+        Some(address) => {
+            text.number(address as u64);
+            text.put(after);
+        }
+        None => add_value(text, "an address that is ", slot),
     }
 }
 

@@ -1,21 +1,27 @@
-use Rattle.std.proofs.Common.{◌∙◌, ◌∷◌, [], ◌++◌, ap, map, subst, sym, take, List, ℕ}
+use Rattle.std.proofs.Common.{◌∙◌, ◌∷◌, [], ◌+◌, ◌++◌, ap, map, subst, sym, take, List}
 use Rattle.std.proofs.lemmas.List.{map-append}
-use Rattle.elf_loader.specs.LoadedFiles.{loads}
 use Rattle.image_loader.specs.Images.{loaded_of}
-use Rattle.prove_command.specs.Named.{AreLoaded}
-use Rattle.prove_command.proofs.Files.{loaded_more, take_one}
-use Rattle.prove_command.proofs.fetching.images_in.Goals as goal
+use Rattle.image_loader.specs.declared.images.Image.{Image}
+use Rattle.run_inputs.proofs.ImageFiles.{no_files}
 use Rattle.xinu_model.specs.Boot.{Loaded}
+use Rattle.prove_command.proofs.Files.{good_then, loaded_then}
+use Rattle.prove_command.specs.Named.{AreLoaded}
+use Rattle.prove_command.proofs.fetching.images_in.Goals as goal
 
-pub loop-file-preserved : goal.loop-file-preserved
-loop-file-preserved c =
-    let so_far = take c.loop-file.file-index c.args.files.now in
-    let bytes = c.file-item.result.items in
-    let image = loaded_of c.in_ok-image.image in
-    let one = take_one c.args.files.now c.loop-file.file-index c.file-item.result c.loop-file-test.true c.file-item.is in
-    let files = ap (map (λ v. v.items)) one ∙ map-append (λ v. v.items) so_far (c.file-item.result ∷ []) in
-    let images = ap (map loaded_of) c.in_ok-keep.ensures.kept ∙ map-append loaded_of c.loop-file.images.items (c.in_ok-image.image ∷ []) in
-    let loaded = ap loads (sym c.as_slice.ensures.value) ∙ c.in_ok-image.ensures.loads in
-    subst (λ (fs : List (List ℕ)). AreLoaded fs (map loaded_of c.keep.new.list.items)) (sym files)
-    (subst (λ (xs : List Loaded). AreLoaded (map (λ v. v.items) so_far ++ bytes ∷ []) xs) (sym images)
-    (loaded_more (map (λ v. v.items) so_far) (map loaded_of c.loop-file.images.items) bytes image c.loop-file.invariant loaded))
+pub loop-i-init : goal.loop-i-init
+loop-i-init c = record {
+  loaded = subst (λ (xs : List Image). AreLoaded [] (map loaded_of xs)) (sym c.new-images.ensures.items) tt;
+  good = no_files;
+}
+
+pub loop-i-preserved : goal.loop-i-preserved
+loop-i-preserved c =
+    let files = c.args.files.now in
+    let same = c.as_slice.ensures.value ∙ ap (λ v. v.items) c.index-files-i.is in
+    let images = ap (map loaded_of) c.in-Ok-push.ensures.items ∙ map-append loaded_of c.loop-i.images.items (c.in-Ok.image ∷ []) in
+    record {
+      loaded = subst (λ (xs : List Loaded). AreLoaded (map (λ v. v.items) (take (c.loop-i.i + 1) files)) xs) (sym images)
+          (loaded_then files c.loop-i.i c.index-files-i.result c.as_slice.result.now (map loaded_of c.loop-i.images.items) (loaded_of c.in-Ok.image)
+          c.loop-i-test.true c.loop-i.invariant.loaded same c.in-Ok.ensures.loads);
+      good = good_then files c.loop-i.i _ c.index-files-i.result c.as_slice.result.now c.loop-i-test.true c.loop-i.invariant.good same c.in-Ok.ensures.judged;
+    }
