@@ -1,5 +1,5 @@
 -- Files that are fetched and loaded one by one.
-use Rattle.std.proofs.Common.{◌≡◌, ◌+◌, ◌-◌, ◌<◌, ◌≤◌, ◌++◌, ℕ, suc, zero, List, [], ◌∷◌, length, arith, false, Option, None, Some, String, Vec, Global, refl, sym, ap, map, subst, take, drop, option_map, ◌∙◌}
+use Rattle.std.proofs.Common.{◌≡◌, ◌+◌, ◌-◌, ◌<◌, ◌++◌, ℕ, suc, zero, List, [], ◌∷◌, length, arith, false, Option, None, Some, String, Vec, Global, refl, sym, ap, map, subst, take, drop, option_map, ◌∙◌}
 use Rattle.std.proofs.lemmas.List.{map-append, take-append-drop}
 use Rattle.std.specs.String.{string_bytes}
 use Rattle.std.specs.Prelude.{get_or}
@@ -9,7 +9,7 @@ use Rattle.prove_command.specs.Named.{AreFetched, AreLoaded, IsFrom}
 use Rattle.prove_command.specs.Theorem.{IsImageFault}
 use Rattle.run_inputs.proofs.FetchedFiles.{fetched_ended, fetched_files, fetched_stopped, fetched_then}
 use Rattle.run_inputs.proofs.GoodImages.{good_more}
-use Rattle.run_inputs.specs.Fetching.{FetchesFiles, IsOfHost, refusal_of}
+use Rattle.run_inputs.specs.Fetching.{FetchesFiles, IsOfHost}
 use Rattle.run_inputs.specs.InputFaults.{have_fault, image_fault}
 use Rattle.run_inputs.specs.declared.refusals.Refusal.{Refusal}
 use Rattle.run_inputs.specs.declared.refusals.Refusal.TheVariants as refusal

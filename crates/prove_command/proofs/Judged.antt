@@ -1,5 +1,5 @@
 -- What becomes of files, put together of what becomes of their images.
-use Rattle.std.proofs.Common.{◌≡◌, ◌≢◌, ◌∙◌, ◌++◌, ◌⊎◌, ℕ, arith, List, None, Option, Some, inl, inr, map, refl, sym, ap, subst}
+use Rattle.std.proofs.Common.{◌≡◌, ◌≢◌, ◌∙◌, ℕ, arith, List, None, Option, Some, inl, inr, refl, sym, subst}
 use Rattle.std.specs.Prelude.{Err, IfErr, IfOk, Ok, Result}
 use Rattle.host_port.specs.Outside.{Outside}
 use Rattle.kernel_boot.specs.Boots.{BootsAs}
@@ -11,11 +11,11 @@ use Rattle.run_inputs.specs.declared.refusals.Refusal.{Refusal}
 use Rattle.run_inputs.specs.declared.refusals.Refusal.TheVariants as refusal
 use Rattle.xinu_model.specs.Boot.{Boots, Disks, Loaded, NoRoom, Overlaps, Start, and_then, boot, boot_on, on_disks}
 use Rattle.xinu_model.specs.Machine.{Xinu}
-use Rattle.prove_command.specs.Named.{AreLoaded, IsProvedIn}
+use Rattle.prove_command.specs.Named.{AreLoaded}
 use Rattle.prove_command.specs.Proved.{IsProved}
 use Rattle.run_inputs.specs.Fetching.{FetchesFiles, IsOfHost}
 use Rattle.prove_command.specs.Named.{AreFetched}
-use Rattle.prove_command.specs.Theorem.{AreAnswered, AreRefused, AreUnbooted, BootIn, Carries, Continues, IsImageFault, IsUnsent, Judges, Obeys, ProvesAsked, Sends, Tells}
+use Rattle.prove_command.specs.Theorem.{AreAnswered, AreRefused, AreUnbooted, Carries, Continues, IsImageFault, IsUnsent, Judges, Obeys, ProvesAsked, Sends, Tells}
 use Rattle.prove_command.specs.Words.{Asked, asked}
 use Rattle.prove_command.specs.Named.{IsProvedOf}
 use Rattle.run_inputs.specs.Refusals.{status_of}

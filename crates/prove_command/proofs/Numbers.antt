@@ -1,5 +1,5 @@
 -- A number in the range that is asked for.
-use Rattle.std.proofs.Common.{◌≡◌, ◌&&◌, ◌≤◌, ◌⊎◌, ℕ, List, None, Option, Some, cond, false, inl, inr, length, subst, sym, true, ◌∙◌}
+use Rattle.std.proofs.Common.{◌≡◌, ◌&&◌, ◌≤◌, ◌⊎◌, ℕ, List, None, Some, false, inl, inr, length, subst, sym, true, ◌∙◌}
 use Rattle.std.proofs.lemmas.Bool.{and_parts, cases_Bool, cond-false, cond-true, leb-true}
 use Rattle.std.specs.Prelude.{nat_le, nat_lt}
 use Rattle.std.specs.Str.Parse.{digits_value}

@@ -1,4 +1,4 @@
-use Rattle.std.proofs.Common.{◌∙◌, ap, arith, map, subst, sym, None, Some}
+use Rattle.std.proofs.Common.{ap, arith, map, subst, None, Some}
 use Rattle.std.proofs.lemmas.List.{length-map}
 use Rattle.std.specs.String.{string_bytes}
 use Rattle.prove_command.proofs.Files.{as_many_files}

@@ -1,4 +1,4 @@
-use Rattle.std.proofs.Common.{◌∙◌, ◌∷◌, [], ◌+◌, ◌++◌, ap, map, subst, sym, take, List}
+use Rattle.std.proofs.Common.{◌∙◌, ◌∷◌, [], ◌+◌, ap, map, subst, sym, take, List}
 use Rattle.std.proofs.lemmas.List.{map-append}
 use Rattle.image_loader.specs.Images.{loaded_of}
 use Rattle.image_loader.specs.declared.images.Image.{Image}
