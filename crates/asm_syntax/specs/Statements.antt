@@ -145,6 +145,29 @@ statement_of (Word w ∷ []) = if can_name w then stated (meaning_of w) (Some []
 statement_of (Word w ∷ Blank ∷ ts) = if can_name w then stated (meaning_of w) (operands_of (solid ts)) else Malformed
 statement_of (t ∷ ts) = Malformed
 
+-- what follows a word, if a blank or nothing separates them
+abbrev pub after_word : List Token → Option (List Token)
+after_word [] = Some []
+after_word (Blank ∷ ts) = Some ts
+after_word (t ∷ ts) = None
+
+-- a word with what follows it
+abbrev pub word_with : List ℕ → Option (List Token) → Option (List ℕ × List Token)
+word_with w None = None
+word_with w (Some ts) = Some (w, ts)
+
+-- the word of the tokens after the labels, and the tokens of its operands
+abbrev pub said : List Token → Option (List ℕ × List Token)
+said (Blank ∷ ts) = said ts
+said (Word w ∷ ts) = if can_name w then word_with w (after_word ts) else None
+said ts = None
+
+-- the word of a line after its labels, and the tokens of its operands
+abbrev pub said_line : List Token → Option (List ℕ × List Token)
+said_line (Blank ∷ ts) = said_line ts
+said_line (Word w ∷ Colon ∷ ts) = if is_name w then said_line ts else said (Word w ∷ Colon ∷ ts)
+said_line ts = said ts
+
 -- a line: the labels that begin it, and the statement after them
 pub record Line : Type 0 where
   pub labels : List (List ℕ)

@@ -1,7 +1,7 @@
 //! Lines: the labels that begin one, and the statement after them.
 
 ghost use Rattle.std.specs.Prelude.{◌≡◌, ◌<◌, [], ◌∷◌, length, map, true, false, Some, None, MatchOption, IfSome};
-ghost use Rattle.asm_syntax.specs.CodeLines.{skip, is_named, is_blank_token, starts_with_colon};
+ghost use Rattle.asm_syntax.specs.CodeLines.{skip, is_named, is_statement, is_blank_token, starts_with_colon};
 ghost use Rattle.asm_syntax.specs.CodeMeanings.{seen_meaning, HasRoom};
 ghost use Rattle.asm_syntax.specs.CodeOperands.{seen_operand};
 ghost use Rattle.asm_syntax.specs.CodeStatements.{seen_statement, IsProper};
@@ -26,6 +26,7 @@ use crate::words::is_name;
 /// The first label of a line, and the line after its colon. There is none if the line doesn't begin with one.
 pub fn first_label(line: &[u8]) -> Option<(&[u8], &[u8])>
     ensures label { MatchOption result (spec.line_of line.now ≡ spec.unlabelled (tokens_of line.now)) (λ cut. spec.line_of line.now ≡ spec.with_label cut.0.now (spec.line_of cut.1.now)) }
+    ensures said { MatchOption result (spec.said_line (tokens_of line.now) ≡ spec.said (tokens_of line.now)) (λ cut. spec.said_line (tokens_of line.now) ≡ spec.said_line (tokens_of cut.1.now)) }
     ensures shorter { IfSome result (λ cut. length cut.1.now < length line.now) }
 {
     let (token, rest) = next_word(line)?;
@@ -42,6 +43,38 @@ pub fn statement_in(line: &[u8]) -> Statement<'_>
     match next_word(line) {
         Some((token, rest)) => statement_from(token, rest),
         None => Statement::Empty,
+    }
+}
+
+/// The word of a line without labels, and the line after it, if a blank or nothing separates them.
+pub fn word_in(line: &[u8]) -> Option<(&[u8], &[u8])>
+    ensures word { MatchOption result (spec.said (tokens_of line.now) ≡ None) (λ cut. spec.said (tokens_of line.now) ≡ Some (cut.0.now, tokens_of cut.1.now)) }
+{
+    let (token, rest) = next_word(line)?;
+    let name = word_of_token(token)?;
+    let after = operands_after(rest)?;
+    Some((name, after))
+}
+
+// The word that a token is, if it can name an instruction or a directive.
+fn word_of_token(token: Token<'_>) -> Option<&[u8]>
+    ensures word { MatchOption result (is_statement (seen token.entry) ≡ false) (λ name. seen token.entry ≡ tokens.Word name.now) }
+    ensures named { IfSome result (λ name. spec.can_name name.now ≡ true) }
+{
+    match token {
+        Token::Word(name) => { if can_name(name) { Some(name) } else { None } }
+        _ => None,
+    }
+}
+
+// The line of the operands after a word.
+fn operands_after(line: &[u8]) -> Option<&[u8]>
+    ensures operands { MatchOption result (spec.after_word (tokens_of line.now) ≡ None) (λ after. spec.after_word (tokens_of line.now) ≡ Some (tokens_of after.now)) }
+{
+    match next_token(line) {
+        None => Some(&[]),
+        Some((Token::Blank, after)) => Some(after),
+        Some(_) => None,
     }
 }
 

@@ -8,7 +8,7 @@ use rv_isa::{Row, row_named};
 
 /// What a word asks for.
 #[derive(Clone, Copy)]
-pub(crate) enum Meaning {
+pub enum Meaning {
     /// An instruction of the table.
     Instruction(Row),
     /// A number is loaded.
@@ -46,7 +46,7 @@ pub(crate) enum Meaning {
 }
 
 /// The meaning of a word.
-pub(crate) fn meaning_of(word: &[u8]) -> Option<Meaning>
+pub fn meaning_of(word: &[u8]) -> Option<Meaning>
     ensures meaning { MatchOption result (spec.meaning_of word.now ≡ None) (λ meaning. spec.meaning_of word.now ≡ Some (seen_meaning meaning)) }
     ensures room { IfSome result HasRoom }
 {

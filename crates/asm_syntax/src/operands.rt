@@ -15,7 +15,7 @@ use arrayvec::ArrayVec;
 
 /// An operand.
 #[derive(Clone, Copy, Default, Drop)]
-pub(crate) enum Operand<'a> {
+pub enum Operand<'a> {
     /// A name where the number before a register has to be.
     #[default]
     NamedOffset,
@@ -30,7 +30,7 @@ pub(crate) enum Operand<'a> {
 }
 
 /// The first four operands of those that commas separate. Each word takes at most three.
-pub(crate) fn operands_in(line: &[u8]) -> Option<ArrayVec<Operand<'_>, 4>>
+pub fn operands_in(line: &[u8]) -> Option<ArrayVec<Operand<'_>, 4>>
     ensures operands { MatchOption result (spec.operands_of (solid (tokens_of line.now)) ≡ None) (λ operands. first_four (spec.operands_of (solid (tokens_of line.now))) ≡ Some (map seen_operand operands.items)) }
 {
     match next_solid(line) {

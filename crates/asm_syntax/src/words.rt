@@ -45,7 +45,7 @@ pub(crate) fn is_within(low: u8, high: u8, b: u8) -> bool
 }
 
 /// The register of a name: `x` and its number, or its name in the calling convention.
-pub(crate) fn register_of(name: &[u8]) -> Option<u8>
+pub fn register_of(name: &[u8]) -> Option<u8>
     ensures register { result ≡ values.register_of name.now }
     ensures small { IfSome result (λ n. n < 32) }
 {

@@ -6,3 +6,4 @@ pub mod TextLemmas
 pub mod LabelledLayouts
 pub mod PassLemmas
 pub mod AssemblyLemmas
+pub mod ListingLemmas

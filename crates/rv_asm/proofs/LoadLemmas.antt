@@ -142,7 +142,7 @@ sound s bytes (Some l) same keeps void is = record {
 }
 
 -- a text that makes a file has no fault
-makes : (first astray : Option AsmFault) (void : Bool) (made file : List ℕ) → ended first astray void made ≡ Makes file
+pub makes : (first astray : Option AsmFault) (void : Bool) (made file : List ℕ) → ended first astray void made ≡ Makes file
     → (first ≡ None) × ((astray ≡ None) × ((void ≡ false) × (made ≡ file)))
 makes None None false made file is = (refl, (refl, (refl, cc)))
 makes None None true made file is = cc

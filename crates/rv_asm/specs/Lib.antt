@@ -5,3 +5,4 @@ pub mod Examples
 pub mod CodeLabels
 pub mod CodeLayouts
 pub mod CodeAssembly
+pub mod Listings

@@ -81,8 +81,8 @@ fn is_unknown(labels: &Labels<'_>, statement: &Statement<'_>) -> bool
     }
 }
 
-// Whether a number doesn't fit, or what a statement puts can't be put at an address.
-fn is_excessive(statement: &Statement<'_>, at: u64) -> bool
+/// Whether a number doesn't fit, or what a statement puts can't be put at an address.
+pub fn is_excessive(statement: &Statement<'_>, at: u64) -> bool
     requires proper { IsProper statement.now }
     ensures excessive { result ≡ spec.is_excessive (seen_statement statement.now) at }
 {
@@ -134,7 +134,7 @@ fn is_entry(place: u64, end: u64, entry: u64) -> bool
 }
 
 /// The address of a label that is there.
-pub(crate) fn address(labels: &Labels<'_>, name: &[u8]) -> u64
+pub fn address(labels: &Labels<'_>, name: &[u8]) -> u64
     ensures address { result ≡ spec.address (found labels.now) name.now }
 {
     labels.address(name).unwrap_or(0)

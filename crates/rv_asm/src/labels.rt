@@ -10,13 +10,13 @@ use std::collections::HashMap;
 
 /// The labels so far, each with the address of its first place.
 #[derive(Drop)]
-pub(crate) struct Labels<'a> {
+pub struct Labels<'a> {
     addresses: HashMap<&'a [u8], u64>,
 }
 
 impl<'a> Labels<'a> {
     /// No labels.
-    pub(crate) fn new(alloc: Global) -> Labels<'a>
+    pub fn new(alloc: Global) -> Labels<'a>
         ensures none { (q : List ℕ) → found result q ≡ None }
     {
         Labels {
@@ -25,14 +25,14 @@ impl<'a> Labels<'a> {
     }
 
     /// The address of a label, if it is one.
-    pub(crate) fn address(&self, name: &[u8]) -> Option<u64>
+    pub fn address(&self, name: &[u8]) -> Option<u64>
         ensures address { result ≡ found self.now name.now }
     {
         self.addresses.get(name).copied()
     }
 
     /// Adds a label; a name keeps the address of its first place.
-    pub(crate) fn push(&mut self, name: &'a [u8], address: u64) -> Result<(), AllocError>
+    pub fn push(&mut self, name: &'a [u8], address: u64) -> Result<(), AllocError>
         ensures pushed { OnOk result ((q : List ℕ) → found self.new q ≡ or_address (found self.old q) (bytes_eq q name.now) address) }
     {
         if self.addresses.get(name).is_none() {

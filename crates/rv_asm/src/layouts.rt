@@ -2,7 +2,7 @@
 
 ghost use Rattle.std.specs.Prelude.{◌≡◌, ◌∷◌, ◌||◌, [], is_some, Some, None, OnOk, IfOk};
 ghost use Rattle.asm_syntax.specs.CodeStatements.{seen_statement, IsProper};
-ghost use Rattle.asm_syntax.specs.Statements.{line_of, statement_of};
+ghost use Rattle.asm_syntax.specs.Statements.{line_of, said, said_line, statement_of};
 ghost use Rattle.asm_syntax.specs.Tokens.{tokens_of};
 ghost use Rattle.rv_asm.specs.CodeLabels.{found};
 ghost use Rattle.rv_asm.specs.CodeLayouts.{seen_layout};
@@ -21,26 +21,26 @@ const BEYOND: u64 = 0x1_0000_0000;
 
 /// What the lines so far have set.
 #[derive(Drop)]
-pub(crate) struct Layout<'a> {
+pub struct Layout<'a> {
     /// The place of the content.
-    pub(crate) place: Option<u64>,
+    pub place: Option<u64>,
     /// The label at which the process begins.
-    pub(crate) entry: Option<&'a [u8]>,
+    pub entry: Option<&'a [u8]>,
     /// The priority of the process.
-    pub(crate) priority: Option<u64>,
+    pub priority: Option<u64>,
     /// The size of its stack.
-    pub(crate) stack: Option<u64>,
+    pub stack: Option<u64>,
     /// The labels.
-    pub(crate) labels: Labels<'a>,
+    pub labels: Labels<'a>,
     /// Whether there was a label or content.
-    pub(crate) begun: bool,
+    pub begun: bool,
     /// The address that comes next.
-    pub(crate) at: u64,
+    pub at: u64,
 }
 
 impl<'a> Layout<'a> {
     /// Before the first line.
-    pub(crate) fn new(alloc: Global) -> Layout<'a>
+    pub fn new(alloc: Global) -> Layout<'a>
         ensures start { seen_layout result ≡ spec.start }
     {
         Layout {
@@ -55,9 +55,10 @@ impl<'a> Layout<'a> {
     }
 
     /// Adds the labels of a line. Answers whether one of them was there already, and the line after them.
-    pub(crate) fn take_labels(&mut self, line: &'a [u8]) -> Result<(bool, &'a [u8]), AllocError>
+    pub fn take_labels(&mut self, line: &'a [u8]) -> Result<(bool, &'a [u8]), AllocError>
         ensures layout { OnOk result (seen_layout self.new ≡ spec.after_labels (line_of line.now).labels (seen_layout self.old)) }
         ensures double { IfOk result (λ taken. taken.0 ≡ is_double (line_of line.now).labels self.old.at (found self.old.labels)) }
+        ensures said { IfOk result (λ taken. said (tokens_of taken.1.now) ≡ said_line (tokens_of line.now)) }
         ensures statement { IfOk result (λ taken. statement_of (tokens_of taken.1.now) ≡ (line_of line.now).statement) }
     {
         let mut double = false;
@@ -70,8 +71,8 @@ impl<'a> Layout<'a> {
         Ok((double, rest))
     }
 
-    // Adds a label, and answers whether it was there already.
-    fn label(&mut self, name: &'a [u8]) -> Result<bool, AllocError>
+    /// Adds a label, and answers whether it was there already.
+    pub fn label(&mut self, name: &'a [u8]) -> Result<bool, AllocError>
         ensures layout { OnOk result (seen_layout self.new ≡ spec.after_labels (name.now ∷ []) (seen_layout self.old)) }
         ensures known { IfOk result (λ known. known ≡ is_some (found self.old.labels name.now)) }
     {
@@ -82,7 +83,7 @@ impl<'a> Layout<'a> {
     }
 
     /// Adds a statement.
-    pub(crate) fn take(&mut self, statement: &Statement<'a>)
+    pub fn take(&mut self, statement: &Statement<'a>)
         requires proper { IsProper statement.now }
         ensures layout { seen_layout self.new ≡ spec.after_statement (seen_statement statement.now) (seen_layout self.old) }
     {
@@ -104,7 +105,7 @@ impl<'a> Layout<'a> {
 }
 
 /// What all lines of a text set.
-pub(crate) fn lay_out<'a>(alloc: Global, text: &'a [u8]) -> Result<Layout<'a>, AllocError>
+pub fn lay_out<'a>(alloc: Global, text: &'a [u8]) -> Result<Layout<'a>, AllocError>
     ensures layout { IfOk result (λ layout. seen_layout layout ≡ spec.after_all (lines_in text.now) spec.start) }
 {
     let mut layout = Layout::new(alloc);

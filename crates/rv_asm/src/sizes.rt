@@ -8,7 +8,7 @@ ghost use Rattle.rv_asm.specs.Layouts as spec;
 use asm_syntax::{Statement, next_byte};
 
 /// How many bytes a statement puts at an address.
-pub(crate) fn size_at(at: u64, statement: &Statement<'_>) -> u64
+pub fn size_at(at: u64, statement: &Statement<'_>) -> u64
     requires proper { IsProper statement.now }
     ensures size { result ≡ spec.size_at at (seen_statement statement.now) }
 {
@@ -56,7 +56,7 @@ fn text_size(text: &[u8]) -> u64
 }
 
 /// Whether a statement puts instructions.
-pub(crate) fn is_code(statement: &Statement<'_>) -> bool
+pub fn is_code(statement: &Statement<'_>) -> bool
     ensures code { result ≡ spec.is_code (seen_statement statement.now) }
 {
     match statement {

@@ -12,6 +12,7 @@ loop-name-preserved-then-double c = record {
       (seen_layout c.loop-name.self) (seen_layout c.label.new.self) c.in-Some.name.now c.in-Some.ensures.label c.in_ok-known.ensures.layout
       c.loop-name.invariant.layout;
   double = c.loop-name.invariant.double ∙ or_known c.loop-name.double _ _ c.if-double.true;
+  said = c.loop-name.invariant.said ∙ c.in-Some.ensures.said;
   statement = c.loop-name.invariant.statement ∙ ap (λ (l : Line). l.statement) c.in-Some.ensures.label;
 }
 
@@ -26,5 +27,6 @@ loop-name-preserved c = record {
       ∙ labels_double (line_of c.loop-name.rest.now) (line_of c.in-Some.next.now) (seen_layout c.loop-name.self)
       (seen_layout c.label.new.self) c.in-Some.name.now c.in_ok-known.known c.in-Some.ensures.label c.in_ok-known.ensures.layout
       c.in_ok-known.ensures.known;
+  said = c.loop-name.invariant.said ∙ c.in-Some.ensures.said;
   statement = c.loop-name.invariant.statement ∙ ap (λ (l : Line). l.statement) c.in-Some.ensures.label;
 }
