@@ -1,0 +1,4 @@
+pub mod Causes
+pub mod Reasons
+pub mod Texts
+pub mod CodeCauses
