@@ -1,2 +1,6 @@
 pub mod Geometry
 pub mod Tests
+pub mod Going
+pub mod Effects
+pub mod Held
+pub mod Starting

@@ -1,2 +1,4 @@
 pub mod Spans
 pub mod Judging
+pub mod Answers
+pub mod Held

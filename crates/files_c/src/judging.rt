@@ -2,10 +2,10 @@
 
 ghost use Rattle.std.specs.Prelude.{◌≡◌, ◌≤◌, true, map, length, IfOk};
 ghost use Rattle.files_c.specs.Judging.{has_bytes, holds, holds_file, holds_none, is_disk, judged, judgements, times_named};
-ghost use Rattle.files_c.specs.Spans.{is_span, span};
 ghost use Rattle.lfs_check.specs.Disks.{is_this};
 ghost use Rattle.lfs_layout.specs.Files.{found, padded_name, placed_files};
 
+use crate::spans::{is_span, span};
 use lfs_check::{Geometry, dirs_of, entry_is_used, read_directory, size_fault};
 use lfs_format::Entry;
 use lfs_layout::{CleanImage, is_file_name, repair, repaired_images_hold_the_kept_files};
@@ -105,21 +105,6 @@ fn is_held(
     let bytes = span(texts, file.at, file.bytes);
     let there = is_there(alloc, image, entries, text, bytes)?;
     Ok(there)
-}
-
-// Whether there are so many bytes from a place on.
-fn is_span(texts: &[u8], at: u32, many: u32) -> bool
-    ensures span { result ≡ is_span texts.now at many }
-{
-    at as usize + many as usize <= texts.len()
-}
-
-// So many bytes from a place on.
-fn span(texts: &[u8], at: u32, many: u32) -> &[u8]
-    requires span { is_span texts.now at many ≡ true }
-    ensures bytes { result.now ≡ span texts.now at many }
-{
-    &texts[at as usize..at as usize + many as usize]
 }
 
 // Whether no entry has the name of a text.

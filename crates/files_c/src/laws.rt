@@ -1,0 +1,17 @@
+//! What a judgement says of a disk.
+
+ghost use Rattle.std.specs.Prelude.{◌≡◌, ℕ, List, true};
+ghost use Rattle.files_c.specs.Held.{IsHeld};
+ghost use Rattle.files_c.specs.Judging.{is_disk, judged};
+ghost use Rattle.files_c.specs.declared.judging.FileAtRest.{FileAtRest};
+ghost use Rattle.lfs_check.specs.Fields.{directory_entries, geometry_of};
+ghost use Rattle.lfs_layout.specs.Images.{kept_files};
+
+/// The disk holds a file that is judged to be held: exactly one used entry has its name, reading it gives its bytes, and it lies in its
+/// index and data blocks; or it has no entry of its name, if there is to be none. That is what the kernel keeps true of each file at rest,
+/// at each moment.
+#[tactic(auto, using(crate::proofs::Held::judged_held))]
+pub fn judged_files_are_held()
+    ensures held { (disk texts : List ℕ) (f : FileAtRest) → is_disk disk ≡ true
+        → judged (kept_files disk) (directory_entries (geometry_of disk) disk) texts f ≡ 1 → IsHeld disk texts f }
+{}
