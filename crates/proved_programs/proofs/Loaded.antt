@@ -13,6 +13,7 @@ use Rattle.proved_programs.specs.Adding.{adding_first, adding_images, adding_loc
 use Rattle.proved_programs.specs.Counting.{counting_first, counting_images, counting_lock, counting_programs, counting_second}
 use Rattle.proved_programs.specs.Statement.{rounds}
 use Rattle.proved_programs.specs.Sleeping.{sleeping_first, sleeping_images, sleeping_lock, sleeping_second}
+use Rattle.proved_programs.specs.Tens.{tens_first, tens_images, tens_lock, tens_second}
 
 pub counting_checks : system_checks counting_lock counting_programs ≡ true
 counting_checks = refl
@@ -45,7 +46,16 @@ sleeping_there = programs_there sleeping_lock sleeping_first (sleeping_second �
 pub sleeping_boots : (disks : Disks) → (start : Xinu) × (boot_on disks sleeping_images ≡ Boots start)
 sleeping_boots disks = boots_all disks sleeping_images 131055 refl refl refl (omega arith)
 
--- the rules of both, at each moment
+pub tens_checks : system_checks tens_lock (tens_first ∷ tens_second ∷ []) ≡ true
+tens_checks = refl
+
+pub tens_there : are_there tens_lock (tens_first ∷ tens_second ∷ []) tens_images ≡ true
+tens_there = programs_there tens_lock tens_first (tens_second ∷ []) 0 refl refl refl refl refl
+
+pub tens_boots : (disks : Disks) → (start : Xinu) × (boot_on disks tens_images ≡ Boots start)
+tens_boots disks = boots_all disks tens_images 131045 refl refl refl (omega arith)
+
+-- the rules of these, at each moment
 pub adding_kept : (disks : Disks) (start now : Xinu) (ms : List Moment) → AreSoundDisks disks → boot_on disks adding_images ≡ Boots start → LeadTo start ms now
     → IsKept adding_lock 3 (rounds ms) now
 adding_kept disks start now ms sound boots lead =
@@ -57,3 +67,9 @@ pub sleeping_kept : (disks : Disks) (start now : Xinu) (ms : List Moment) → Ar
 sleeping_kept disks start now ms sound boots lead =
     always_keeps sleeping_lock (sleeping_first ∷ sleeping_second ∷ []) sleeping_checks disks sleeping_images start now ms
     (record { loaded = sleeping_there; sound = sound; boots = boots }) lead
+
+pub tens_kept : (disks : Disks) (start now : Xinu) (ms : List Moment) → AreSoundDisks disks → boot_on disks tens_images ≡ Boots start → LeadTo start ms now
+    → IsKept tens_lock 2 (rounds ms) now
+tens_kept disks start now ms sound boots lead =
+    always_keeps tens_lock (tens_first ∷ tens_second ∷ []) tens_checks disks tens_images start now ms
+    (record { loaded = tens_there; sound = sound; boots = boots }) lead

@@ -5,4 +5,5 @@ pub mod Outlining
 pub mod Sleeping
 pub mod Sources
 pub mod Statement
+pub mod Tens
 pub mod Unguarded

@@ -18,6 +18,9 @@ a0 n = record { register = 10; term = constant n }
 abbrev pub a7 : ℕ → Value
 a7 n = record { register = 17; term = constant n }
 
+abbrev pub ra : ℕ → Value
+ra n = record { register = 1; term = constant n }
+
 abbrev pub t0 : Term → Value
 t0 t = record { register = 5; term = t }
 

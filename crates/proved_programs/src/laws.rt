@@ -11,6 +11,7 @@ ghost use Rattle.proved_programs.specs.Others.{count_at, down_lock, down_loop, j
 ghost use Rattle.proved_programs.specs.Sleeping.{sleeping_images, sleeping_lock};
 ghost use Rattle.proved_programs.specs.Sources.{IsSourceOf, first_text, second_text};
 ghost use Rattle.proved_programs.specs.Statement.{IsCounted, IsToldRight, rounds};
+ghost use Rattle.proved_programs.specs.Tens.{tens_first, tens_images, tens_lock, tens_overwriting, tens_second};
 ghost use Rattle.proved_programs.specs.Unguarded.{after_events, keeping, losing, two_unguarded};
 ghost use Rattle.scheduling_laws.specs.Moments.{LeadTo, Moment};
 ghost use Rattle.xinu_base.specs.declared.events.End.{End};
@@ -35,6 +36,7 @@ pub fn the_programs_boot()
     ensures counting { (disks : Disks) → (start : Xinu) × (boot_on disks counting_images ≡ Boots start) }
     ensures adding { (disks : Disks) → (start : Xinu) × (boot_on disks adding_images ≡ Boots start) }
     ensures sleeping { (disks : Disks) → (start : Xinu) × (boot_on disks sleeping_images ≡ Boots start) }
+    ensures tens { (disks : Disks) → (start : Xinu) × (boot_on disks tens_images ≡ Boots start) }
 {}
 
 /// At each moment of each run of the two that count, on any disks, the word is the number of rounds that were completed, and one more if a process
@@ -54,22 +56,27 @@ pub fn both_go_on()
         boot_on disks counting_images ≡ Boots start → RunsTo start events lines last end → end ≡ Schedule }
 {}
 
-/// The three that add 3 and the two that sleep with the token keep their rules at each moment, and stay alive.
+/// The three that add 3, the two that sleep with the token, and the two that add 1 ten times each keep their rules at each moment, and stay alive.
 pub fn others_keep_their_rules()
     ensures adding { (disks : Disks) (start now : Xinu) (ms : List Moment) → AreSoundDisks disks → boot_on disks adding_images ≡ Boots start →
         LeadTo start ms now → IsKept adding_lock 3 (rounds ms) now }
     ensures sleeping { (disks : Disks) (start now : Xinu) (ms : List Moment) → AreSoundDisks disks → boot_on disks sleeping_images ≡ Boots start →
         LeadTo start ms now → IsKept sleeping_lock 2 (rounds ms) now }
+    ensures tens { (disks : Disks) (start now : Xinu) (ms : List Moment) → AreSoundDisks disks → boot_on disks tens_images ≡ Boots start →
+        LeadTo start ms now → IsKept tens_lock 2 (rounds ms) now }
 {}
 
-/// The check accepts the outlines of programs that count, add 3, sleep with the token, join two ways, and count down. It refuses those of a
-/// program that adds 2 by the rule of 1, one that doesn't `wait`, one that calls `signal` twice, one that takes what it knew of the word for known
-/// once it gave the token back, and those of programs that keep to another lock.
+/// The check accepts the outlines of programs that count, add 3, sleep with the token, join two ways, count down, and add in a subroutine with a
+/// word of their own. It refuses those of a program that adds 2 by the rule of 1, one that doesn't `wait`, one that calls `signal` twice, one that
+/// takes what it knew of the word for known once it gave the token back, one that stores where programs lie, and those of programs that keep to
+/// another lock.
 pub fn outlines_are_checked()
     ensures counting { system_checks counting_lock counting_programs ≡ true }
     ensures adding { system_checks adding_lock (adding_first ∷ adding_others) ≡ true }
     ensures joining { system_checks (count_at 156) (two_of 72 joining_loop) ≡ true }
     ensures down { system_checks down_lock (two_of 72 down_loop) ≡ true }
+    ensures tens { system_checks tens_lock (tens_first ∷ tens_second ∷ []) ≡ true }
+    ensures overwriting { system_checks tens_lock (tens_overwriting ∷ tens_second ∷ []) ≡ false }
     ensures twos { system_checks (count_at 108) (two_of 64 twos_loop) ≡ false }
     ensures rash { system_checks (count_at 108) (two_of 64 rash_loop) ≡ false }
     ensures twice { system_checks (count_at 156) (two_of 72 twice_loop) ≡ false }
