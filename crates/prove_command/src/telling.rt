@@ -43,28 +43,30 @@ pub(crate) fn tell_proof(
     text
 }
 
-// Adds the addresses at which a program has the lock alone: the first and the last one.
+// Adds the addresses at which a program has the lock alone: the first and the last one of each stretch.
 fn add_held(text: &mut Text, name: &str, table: &[Place], range: &Range) {
-    let mut first = None;
-    let mut last = 0u32;
+    text.put(" ");
+    text.put(name);
+    let mut is_held = false;
+    let mut is_never = true;
     let mut address = range.first;
     for k in range.start..range.after {
-        if k < table.len() && table[k].held.is_some() && table[k].free.is_none() {
-            if first.is_none() {
-                first = Some(address);
-            }
-            last = address;
+        let was_held = is_held;
+        is_held = k < table.len() && table[k].held.is_some() && table[k].free.is_none();
+        if is_held && !was_held {
+            text.numbered(" ", address as u64);
+            is_never = false;
+        }
+        if was_held && !is_held {
+            text.numbered("-", address.wrapping_sub(4) as u64);
         }
         address = address.wrapping_add(4);
     }
-    text.put(" ");
-    text.put(name);
-    match first {
-        Some(first) => {
-            text.numbered(" ", first as u64);
-            text.numbered("-", last as u64);
-        }
-        None => text.put(" never"),
+    if is_held {
+        text.numbered("-", address.wrapping_sub(4) as u64);
+    }
+    if is_never {
+        text.put(" never");
     }
 }
 
