@@ -6,7 +6,7 @@ use Rattle.clap.specs.Walk.{Row, Walk, finished, has_row, idle, nothing_held, se
 use Rattle.clap.specs.Takes.{is_given}
 use Rattle.clap.specs.Kinds.{Kinds, or_else}
 use Rattle.clap.specs.Faults.{check_fault, default_fault, defaults_fault, given_default_fault, level_fault, settle_fault, walk_fault}
-use Rattle.command_line.specs.Reading.{OptionRow, State, Taken, Text, after_arg, at_end, choosing, nothing_taken, read, refused}
+use Rattle.command_line.specs.Reading.{OptionRow, State, Taken, Text, ReadingFault, after_arg, at_end, choosing, nothing_taken, read, refused}
 use Rattle.command_line.proofs.Table.{is_apart, leaf, ready, ready_arg, rules, arg_id}
 use Rattle.command_line.proofs.Rows.{Holds}
 use Rattle.command_line.proofs.Uses.{first_fails}
@@ -61,9 +61,9 @@ no_check name os rows = rw (none_required os rows) refl
 
 -- ---- the law
 
-stays_refused : (os : List OptionRow) (args : List Text) → at_end (fold (after_arg os) refused args) ≡ None
-stays_refused os [] = refl
-stays_refused os (w ∷ ws) = stays_refused os ws
+stays_refused : (os : List OptionRow) (args : List Text) (s : State) (cause : ReadingFault) → s ≡ refused cause → at_end (fold (after_arg os) s args) ≡ None
+stays_refused os [] s cause is = ap at_end is
+stays_refused os (w ∷ ws) s cause is = stays_refused os ws (after_arg os s w) cause (ap (λ x. after_arg os x w) is)
 
 module _ (name : Text) (os : List OptionRow) (apart : is_apart os ≡ true) where
   -- the walk over the arguments that are left, and what is checked after it
@@ -81,7 +81,7 @@ module _ (name : Text) (os : List OptionRow) (apart : is_apart os ≡ true) wher
   ends s w (fits_choosing t rows pending waiting idles settled) = (rw (settled.passes, no_defaults, no_check) refl, settled.holds)
   ends s w (fits_wanting o t rows row takes h) = first_fails _ _ (wanting_fails name os apart o rows row takes)
   ends s w (fits_listing t rows pending waiting settled) = (rw (settled.passes, no_defaults, no_check) refl, settled.holds)
-  ends s w (fits_refused rows pending waiting trailing idles bad) = first_fails _ _ bad
+  ends s w (fits_refused cause rows pending waiting trailing idles bad) = first_fails _ _ bad
 
   along : (args : List Text) → AllUtf8 args → (s : State) (w : Walk) → Fits name os apart s w
       → Verdict os (rest_fault w args) (held_rows w args) (at_end (fold (after_arg os) s args))
@@ -89,7 +89,7 @@ module _ (name : Text) (os : List OptionRow) (apart : is_apart os ≡ true) wher
   along [] u s w fits = ends s w fits
   along (arg ∷ args) u s w fits = elim (goes name os apart s w fits arg u.0) [
     | inl both ↦ rw both.0 (along args u.1 (after_arg os s arg) (walked (rules os) [] w arg) both.1)
-    | inr fails ↦ rw (fails.1, stays_refused os args) (first_fails _ _ (first_fails _ _ fails.0))
+    | inr fails ↦ rw (stays_refused os args (after_arg os s arg) fails.1.0 fails.1.1) (first_fails _ _ (first_fails _ _ fails.0))
   ]
 
   -- what the parser makes of the arguments after the command's name

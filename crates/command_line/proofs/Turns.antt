@@ -9,7 +9,7 @@ use Rattle.clap.specs.Walk.{Held, Row, Rule, Step, Waiting, Walk, after_flag, af
 use Rattle.clap.specs.Kinds.{Kinds, or_else}
 use Rattle.clap.specs.declared.error.kind.ErrorKind.TheVariants.{TooManyValues}
 use Rattle.clap.specs.Faults.{long_fault, react_fault, settle_fault, step_fault, turn_fault, use_fault}
-use Rattle.command_line.specs.Reading.{OptionRow, State, Taken, Text, after_name, after_arg, choosing, given, listing, refused, row_named, wanting, with_option, with_positional}
+use Rattle.command_line.specs.Reading.{OptionRow, ReadingFault, State, Taken, Twice, Unknown, TakesNone, Text, after_name, after_arg, choosing, given, listing, refused, row_named, wanting, with_option, with_positional}
 use Rattle.command_line.proofs.Table.{by_id, by_index, by_long, by_own_name, by_short, by_arg_id, is_apart, leaf, ready, ready_arg, row_apart, rules, arg_id}
 use Rattle.command_line.proofs.Views.{View, sees_bare, sees_dashed, sees_end, sees_name, view}
 use Rattle.command_line.proofs.Rows.{Holds, find_row, one_more_option, one_more_arg, row_made}
@@ -95,18 +95,22 @@ module _ (name : Text) (os : List OptionRow) (apart : is_apart os ≡ true) wher
         → Fits (wanting o t) (walk_at rows (Some (o.name, [])) (option o.name) false)
     fits_listing : (t : Taken) (rows : List Row) (pending : Pending) (waiting : Waiting) → Settled rows pending t → Fits (listing t) (walk_at rows pending waiting true)
     -- what is pending fails, and no argument mends that
-    fits_refused : (rows : List Row) (pending : Pending) (waiting : Waiting) (trailing : Bool) → (trailing || not (wants_value waiting)) ≡ true → (settling rows pending ≡ [] → ⊥)
-        → Fits refused (walk_at rows pending waiting trailing)
+    fits_refused : (cause : ReadingFault) (rows : List Row) (pending : Pending) (waiting : Waiting) (trailing : Bool) → (trailing || not (wants_value waiting)) ≡ true → (settling rows pending ≡ [] → ⊥)
+        → Fits (refused cause) (walk_at rows pending waiting trailing)
+
+  -- the definition refuses, for some cause
+  abbrev pub IsRefused : State → Type 0
+  IsRefused s = (cause : ReadingFault) × (s ≡ refused cause)
 
   -- an argument passes, and both go on; or the parser fails, and the definition refuses
   abbrev pub Turned : Text → State → Walk → Kinds → Held × Step → Type 0
   Turned arg s w fault met = ((or_else fault (step_fault (leaf name os) 1 met.0 met.1) ≡ []) × Fits s (after_step (rules os) arg w met.0 met.1))
-      ⊎ ((or_else fault (step_fault (leaf name os) 1 met.0 met.1) ≡ [] → ⊥) × (s ≡ refused))
+      ⊎ ((or_else fault (step_fault (leaf name os) 1 met.0 met.1) ≡ [] → ⊥) × IsRefused s)
 
   -- the same of the argument's whole turn
   abbrev pub Goes : State → Walk → Text → Type 0
   Goes s w arg = ((turn_fault (leaf name os) [] w arg ≡ []) × Fits (after_arg os s arg) (walked (rules os) [] w arg))
-      ⊎ ((turn_fault (leaf name os) [] w arg ≡ [] → ⊥) × (after_arg os s arg ≡ refused))
+      ⊎ ((turn_fault (leaf name os) [] w arg ≡ [] → ⊥) × IsRefused (after_arg os s arg))
 
   -- ---- a positional argument
 
@@ -165,9 +169,9 @@ module _ (name : Text) (os : List OptionRow) (apart : is_apart os ≡ true) wher
   used_at_once arg o v rows pending waiting t row s = go (is_some (given o.name t)) refl
     where
       go : (b : Bool) → is_some (given o.name t) ≡ b
-          → Turned arg (if b then refused else choosing (with_one o v t)) (walk_at rows pending waiting false) (react_fault (rules os) false (ready o) (raw o v) (held_at rows pending))
+          → Turned arg (if b then refused (Twice o.name) else choosing (with_one o v t)) (walk_at rows pending waiting false) (react_fault (rules os) false (ready o) (raw o v) (held_at rows pending))
           (reacted (rules os) (ready o) (raw o v) (held_at rows pending), next idle)
-      go true e = inr (first_fails _ _ (second_fails _ _ (second_use o v (settled_rows (rules os) pending rows) (is_found o _ t row s.holds e))), refl)
+      go true e = inr (first_fails _ _ (second_fails _ _ (second_use o v (settled_rows (rules os) pending rows) (is_found o _ t row s.holds e))), (_, refl))
       go false e = inl (
         rw (s.passes, first_use o v (settled_rows (rules os) pending rows) (is_not_found o _ t row s.holds e)) refl,
         fits_choosing (with_one o v t) (used (ready o) (raw o v) (settled_rows (rules os) pending rows)) None idle refl (record { passes = refl; holds = used_once o v _ t row s.holds e }),
@@ -190,21 +194,21 @@ module _ (name : Text) (os : List OptionRow) (apart : is_apart os ≡ true) wher
 
   -- a name with its value: a flag takes none
   named_with : (arg : Text) (o : OptionRow) (v : Text) (b d : Bool) → o.takes_value ≡ b → d ≡ b → (rows : List Row) (pending : Pending) (waiting : Waiting) (t : Taken) → row_named os o.name ≡ Some o
-      → Settled rows pending t → Turned arg (if b then with_option o v t else refused) (walk_at rows pending waiting false)
+      → Settled rows pending t → Turned arg (if b then with_option o v t else refused (TakesNone o.name)) (walk_at rows pending waiting false)
       (if d then react_fault (rules os) false (ready o) (v ∷ []) (held_at rows pending) else TooManyValues ∷ [])
       (after_flag (rules os) waiting arg (if d then option_met (rules os) (ready o) (Some v) (held_at rows pending) else flag_met (rules os) (ready o) (Some v) (held_at rows pending)).0
       (if d then option_met (rules os) (ready o) (Some v) (held_at rows pending) else flag_met (rules os) (ready o) (Some v) (held_at rows pending)).1)
   named_with arg o v true true takes e rows pending waiting t row s =
       subst (λ vs. Turned arg (with_option o v t) (walk_at rows pending waiting false) (react_fault (rules os) false (ready o) vs (held_at rows pending))
       (reacted (rules os) (ready o) vs (held_at rows pending), next idle)) (ap (λ b. if b then v ∷ [] else []) takes) (used_at_once arg o v rows pending waiting t row s)
-  named_with arg o v false false takes e rows pending waiting t row s = inr (λ f. cc, refl)
+  named_with arg o v false false takes e rows pending waiting t row s = inr (λ f. cc, (_, refl))
   named_with arg o v true false takes e rows pending waiting t row s = absurd (cc)
   named_with arg o v false true takes e rows pending waiting t row s = absurd (cc)
 
   named_turn : (arg : Text) (n : Text) (found : Option OptionRow) → row_named os n ≡ found → (v : Option Text) (rows : List Row) (pending : Pending) (waiting : Waiting) (t : Taken) → Settled rows pending t
-      → Turned arg (after_name found v t) (walk_at rows pending waiting false) (long_fault (rules os) false (option_map ready found) v (held_at rows pending))
+      → Turned arg (after_name arg found v t) (walk_at rows pending waiting false) (long_fault (rules os) false (option_map ready found) v (held_at rows pending))
       (after_flag (rules os) waiting arg (long_met (rules os) (option_map ready found) v (held_at rows pending)).0 (long_met (rules os) (option_map ready found) v (held_at rows pending)).1)
-  named_turn arg n None is v rows pending waiting t s = inr (λ e. cc, refl)
+  named_turn arg n None is v rows pending waiting t s = inr (λ e. cc, (_, refl))
   named_turn arg n (Some o) is None rows pending waiting t s = named_alone arg o o.takes_value (takes_values (ready o)) refl (takes_is o) rows pending waiting t (by_own_name os n o is) s
   named_turn arg n (Some o) is (Some v) rows pending waiting t s = named_with arg o v o.takes_value (takes_values (ready o)) refl (takes_is o) rows pending waiting t (by_own_name os n o is) s
 
@@ -224,10 +228,10 @@ module _ (name : Text) (os : List OptionRow) (apart : is_apart os ≡ true) wher
       as_raw = ap (λ b. if b then arg ∷ [] else []) takes
 
       go : (b : Bool) → is_some (given o.name t) ≡ b
-          → Turned arg (if b then refused else choosing (with_one o arg t)) (walk_at rows (Some (o.name, [])) (option o.name) false) [] (held_at rows (Some (o.name, arg ∷ [])), next idle)
+          → Turned arg (if b then refused (Twice o.name) else choosing (with_one o arg t)) (walk_at rows (Some (o.name, [])) (option o.name) false) [] (held_at rows (Some (o.name, arg ∷ [])), next idle)
       go true e = inl (
         refl,
-        fits_refused rows (Some (o.name, arg ∷ [])) idle false refl
+        fits_refused _ rows (Some (o.name, arg ∷ [])) idle false refl
             (λ none. second_use o arg rows (is_found o rows t row h e) (ap (λ vs. use_fault false (ready o) vs rows) as_raw ∙ sym (settling_is o rows (arg ∷ []) row) ∙ none)),
       )
       go false e = inl (
@@ -251,7 +255,7 @@ module _ (name : Text) (os : List OptionRow) (apart : is_apart os ≡ true) wher
   choosing_goes t rows pending waiting idles s arg (sees_name n v w l d) =
       rw (w, no_command waiting arg, d, l, by_long os n) (named_turn arg n (row_named os n) refl v rows pending waiting t s)
   choosing_goes t rows pending waiting idles s arg (sees_dashed x xs c w l f first d) =
-      rw (w, no_command waiting arg, d, l, f) (inr (first_fails _ _ (dashed_fails (rules os) (x ∷ xs) c (length xs) (held_at rows pending) first (by_short os c)), refl))
+      rw (w, no_command waiting arg, d, l, f) (inr (first_fails _ _ (dashed_fails (rules os) (x ∷ xs) c (length xs) (held_at rows pending) first (by_short os c)), (_, refl)))
   choosing_goes t rows pending waiting idles s arg (sees_bare w l f d) =
       rw (w, no_command waiting arg, d, l, f, bare_is (rules os) waiting arg (held_at rows pending) idles) (bare_turn arg t rows pending waiting s)
 
@@ -263,29 +267,29 @@ module _ (name : Text) (os : List OptionRow) (apart : is_apart os ≡ true) wher
       → Goes (wanting o t) (walk_at rows (Some (o.name, [])) (option o.name) false) arg
   unfolding walked
   wanting_goes o t rows row takes h arg (sees_end w d) =
-      rw (w, d) (inl (refl, fits_refused rows (Some (o.name, [])) (option o.name) true refl (wanting_fails o rows row takes)))
+      rw (w, d) (inl (refl, fits_refused _ rows (Some (o.name, [])) (option o.name) true refl (wanting_fails o rows row takes)))
   wanting_goes o t rows row takes h arg (sees_name n v w l d) =
-      rw (w, d, l) (inr (first_fails _ _ (long_fails (rules os) (arg_by_long (rules os) n) v (held_at rows (Some (o.name, []))) (wanting_fails o rows row takes)), refl))
+      rw (w, d, l) (inr (first_fails _ _ (long_fails (rules os) (arg_by_long (rules os) n) v (held_at rows (Some (o.name, []))) (wanting_fails o rows row takes)), (_, refl)))
   wanting_goes o t rows row takes h arg (sees_dashed x xs c w l f first d) =
-      rw (w, d, l, f) (inr (first_fails _ _ (dashed_fails (rules os) (x ∷ xs) c (length xs) (held_at rows (Some (o.name, []))) first (by_short os c)), refl))
+      rw (w, d, l, f) (inr (first_fails _ _ (dashed_fails (rules os) (x ∷ xs) c (length xs) (held_at rows (Some (o.name, []))) first (by_short os c)), (_, refl)))
   wanting_goes o t rows row takes h arg (sees_bare w l f d) =
       rw (w, d, l, f, by_id os o.name o row, same_text o.name, most_is o takes) (value_turn arg o rows t row takes h)
 
-  refused_goes : (rows : List Row) (pending : Pending) (waiting : Waiting) (trailing : Bool) → (trailing || not (wants_value waiting)) ≡ true → (settling rows pending ≡ [] → ⊥) → (arg : Text) → View arg
-      → Goes refused (walk_at rows pending waiting trailing) arg
+  refused_goes : (cause : ReadingFault) (rows : List Row) (pending : Pending) (waiting : Waiting) (trailing : Bool) → (trailing || not (wants_value waiting)) ≡ true → (settling rows pending ≡ [] → ⊥) → (arg : Text) → View arg
+      → Goes (refused cause) (walk_at rows pending waiting trailing) arg
   unfolding walked
-  refused_goes rows pending waiting true idles bad arg v = rw (by_index os, positional_is (rules os) (held_at rows pending)) (inr (bad, refl))
-  refused_goes rows pending waiting false idles bad arg (sees_end w d) = rw (no_command waiting arg, d) (inl (refl, fits_refused rows pending waiting true refl bad))
-  refused_goes rows pending waiting false idles bad arg (sees_name n v w l d) =
-      rw (no_command waiting arg, d, l) (inr (first_fails _ _ (long_fails (rules os) (arg_by_long (rules os) n) v (held_at rows pending) bad), refl))
-  refused_goes rows pending waiting false idles bad arg (sees_dashed x xs c w l f first d) =
-      rw (no_command waiting arg, d, l, f) (inr (first_fails _ _ (dashed_fails (rules os) (x ∷ xs) c (length xs) (held_at rows pending) first (by_short os c)), refl))
-  refused_goes rows pending waiting false idles bad arg (sees_bare w l f d) =
-      rw (no_command waiting arg, d, l, f, bare_is (rules os) waiting arg (held_at rows pending) (not-true (wants_value waiting) idles), by_index os, positional_is (rules os) (held_at rows pending)) (inr (bad, refl))
+  refused_goes cause rows pending waiting true idles bad arg v = rw (by_index os, positional_is (rules os) (held_at rows pending)) (inr (bad, (_, refl)))
+  refused_goes cause rows pending waiting false idles bad arg (sees_end w d) = rw (no_command waiting arg, d) (inl (refl, fits_refused _ rows pending waiting true refl bad))
+  refused_goes cause rows pending waiting false idles bad arg (sees_name n v w l d) =
+      rw (no_command waiting arg, d, l) (inr (first_fails _ _ (long_fails (rules os) (arg_by_long (rules os) n) v (held_at rows pending) bad), (_, refl)))
+  refused_goes cause rows pending waiting false idles bad arg (sees_dashed x xs c w l f first d) =
+      rw (no_command waiting arg, d, l, f) (inr (first_fails _ _ (dashed_fails (rules os) (x ∷ xs) c (length xs) (held_at rows pending) first (by_short os c)), (_, refl)))
+  refused_goes cause rows pending waiting false idles bad arg (sees_bare w l f d) =
+      rw (no_command waiting arg, d, l, f, bare_is (rules os) waiting arg (held_at rows pending) (not-true (wants_value waiting) idles), by_index os, positional_is (rules os) (held_at rows pending)) (inr (bad, (_, refl)))
 
   -- each argument is one step of both
   pub goes : (s : State) (w : Walk) → Fits s w → (arg : Text) → IsUtf8 arg → Goes s w arg
   goes s w (fits_choosing t rows pending waiting idles settled) arg u = choosing_goes t rows pending waiting idles settled arg (view arg u)
   goes s w (fits_wanting o t rows row takes h) arg u = wanting_goes o t rows row takes h arg (view arg u)
   goes s w (fits_listing t rows pending waiting settled) arg u = listing_goes t rows pending waiting settled arg
-  goes s w (fits_refused rows pending waiting trailing idles bad) arg u = refused_goes rows pending waiting trailing idles bad arg (view arg u)
+  goes s w (fits_refused cause rows pending waiting trailing idles bad) arg u = refused_goes cause rows pending waiting trailing idles bad arg (view arg u)

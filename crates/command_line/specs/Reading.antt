@@ -1,6 +1,6 @@
 -- How the arguments after a command's name are read from the left, by a table of the options that the command has.
 use Rattle.std.specs.Prelude.{◌==◌, ◌++◌, ℕ, Bool, true, false, List, [], ◌∷◌, Option, Some, None}
-use Rattle.std.specs.Prelude.{if◌then◌else◌, find, fold, bytes_eq, is_some, option_map, option_and_then}
+use Rattle.std.specs.Prelude.{Result, Ok, Err, if◌then◌else◌, find, fold, bytes_eq, is_some, option_map, option_and_then}
 use Rattle.std.specs.List.{list_any, before_first, after_first}
 
 abbrev pub Text : Type 0
@@ -54,6 +54,17 @@ pub record Taken : Type 0 where
   pub options : List (OptionRow × Text)
   pub positional : List Text
 
+-- why arguments can't be read
+pub data ReadingFault : Type 0 where
+  -- there is no option that this argument names
+  Unknown : (arg : Text) → ReadingFault
+  -- the option of this name is given twice
+  Twice : (name : Text) → ReadingFault
+  -- the option of this name has no value
+  NoValue : (name : Text) → ReadingFault
+  -- the option of this name takes no value
+  TakesNone : (name : Text) → ReadingFault
+
 -- the state of the reading between two arguments
 pub data State : Type 0 where
   -- before the first `--`
@@ -62,8 +73,8 @@ pub data State : Type 0 where
   wanting : OptionRow → Taken → State
   -- after the first `--`
   listing : Taken → State
-  -- these arguments give no command, whatever follows
-  refused : State
+  -- these arguments can't be read, whatever follows
+  refused : ReadingFault → State
 
 -- the row of this name
 abbrev pub row_named : List OptionRow → Text → Option OptionRow
@@ -86,41 +97,54 @@ with_positional arg t = record t { positional = t.positional ++ arg ∷ [] }
 
 -- an option is given once
 abbrev pub with_option : OptionRow → Text → Taken → State
-with_option o value t = if is_some (given o.name t) then refused
+with_option o value t = if is_some (given o.name t) then refused (Twice o.name)
     else choosing (record t { options = t.options ++ (o, value) ∷ [] })
 
--- the argument named an option, by this row of the table and with this value attached
-abbrev pub after_name : Option OptionRow → Option Text → Taken → State
-after_name None value t = refused
-after_name (Some o) None t = if o.takes_value then wanting o t else with_option o [] t
-after_name (Some o) (Some v) t = if o.takes_value then with_option o v t else refused
+-- this argument named an option, by this row of the table and with this value attached
+abbrev pub after_name : Text → Option OptionRow → Option Text → Taken → State
+after_name text None value t = refused (Unknown text)
+after_name text (Some o) None t = if o.takes_value then wanting o t else with_option o [] t
+after_name text (Some o) (Some v) t = if o.takes_value then with_option o v t else refused (TakesNone o.name)
 
 abbrev pub after_choice : List OptionRow → Taken → Text → ArgForm → State
 after_choice table t text end_mark = listing t
-after_choice table t text (naming name value) = after_name (row_named table name) value t
-after_choice table t text dashed = refused
+after_choice table t text (naming name value) = after_name text (row_named table name) value t
+after_choice table t text dashed = refused (Unknown text)
 after_choice table t text bare = choosing (with_positional text t)
 
 -- a value that is an argument of its own has no leading hyphen, unless it is one hyphen alone
 abbrev pub after_value : OptionRow → Taken → Text → ArgForm → State
 after_value o t text bare = with_option o text t
-after_value o t text other = refused
+after_value o t text other = refused (NoValue o.name)
 
 -- the state of the reading after one more argument
 abbrev pub after_arg : List OptionRow → State → Text → State
 after_arg table (choosing t) text = after_choice table t text (arg_of text)
 after_arg table (wanting o t) text = after_value o t text (arg_of text)
 after_arg table (listing t) text = listing (with_positional text t)
-after_arg table refused text = refused
+after_arg table (refused fault) text = refused fault
 
--- a value that is still missing at the end doesn't come
+-- what the arguments give at their end: a value that is still missing doesn't come
+abbrev pub ended : State → Result Taken ReadingFault
+ended (choosing t) = Ok t
+ended (listing t) = Ok t
+ended (wanting o t) = Err (NoValue o.name)
+ended (refused fault) = Err fault
+
+-- what was taken, unless the arguments can't be read
+abbrev pub taken_in : Result Taken ReadingFault → Option Taken
+taken_in (Ok t) = Some t
+taken_in (Err fault) = None
+
 abbrev pub at_end : State → Option Taken
-at_end (choosing t) = Some t
-at_end (listing t) = Some t
-at_end other = None
+at_end s = taken_in (ended s)
 
 abbrev pub nothing_taken : Taken
 nothing_taken = record { options = []; positional = [] }
+
+-- what the arguments give by the table, or why they can't be read: the first of them that is wrong, from the left
+abbrev pub reading : List OptionRow → List Text → Result Taken ReadingFault
+reading table args = ended (fold (after_arg table) (choosing nothing_taken) args)
 
 -- what the arguments give by the table, or `None` if they are refused
 abbrev pub read : List OptionRow → List Text → Option Taken
