@@ -9,7 +9,7 @@ use Rattle.clap.specs.Walk.{Held, Row, Rule, Step, Waiting, Walk, after_flag, af
 use Rattle.clap.specs.Kinds.{Kinds, or_else}
 use Rattle.clap.specs.declared.error.kind.ErrorKind.TheVariants.{TooManyValues}
 use Rattle.clap.specs.Faults.{long_fault, react_fault, settle_fault, step_fault, turn_fault, use_fault}
-use Rattle.command_line.specs.Reading.{OptionRow, ReadingFault, State, Taken, Twice, Unknown, TakesNone, Text, after_name, after_arg, choosing, given, listing, refused, row_named, wanting, with_option, with_positional}
+use Rattle.command_line.specs.Reading.{OptionRow, ReadingFault, State, Taken, Twice, TakesNone, Text, after_name, after_arg, choosing, given, listing, refused, row_named, wanting, with_option, with_positional}
 use Rattle.command_line.proofs.Table.{by_id, by_index, by_long, by_own_name, by_short, by_arg_id, is_apart, leaf, ready, ready_arg, row_apart, rules, arg_id}
 use Rattle.command_line.proofs.Views.{View, sees_bare, sees_dashed, sees_end, sees_name, view}
 use Rattle.command_line.proofs.Rows.{Holds, find_row, one_more_option, one_more_arg, row_made}
