@@ -1,0 +1,3 @@
+pub mod ArgForms
+pub mod JudgedWords
+pub mod Numbers

@@ -1,0 +1,5 @@
+pub mod ValueKinds
+pub mod Tools
+pub mod Words
+pub mod Forms
+pub mod ToolNames
