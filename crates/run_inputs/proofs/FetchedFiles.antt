@@ -8,6 +8,7 @@ use Rattle.host_port.specs.HostCalls.{Rose}
 use Rattle.host_port.specs.Outside.{Outside, HostCall, counted, fetching, with_calls}
 use Rattle.host_port.specs.declared.host.HostFault.{HostFault}
 use Rattle.host_port.specs.declared.host.HostFault.TheVariants as host
+use Rattle.run_inputs.specs.Causes.{WasFetchedLast}
 use Rattle.run_inputs.specs.Conversions.{host_refusal}
 use Rattle.run_inputs.specs.Fetching.{FetchesFiles, IsDecided, IsFetched, IsOfHost}
 use Rattle.run_inputs.specs.declared.refusals.Refusal.{Refusal}
@@ -65,6 +66,11 @@ unfetched_one name f r (suc n) h k is only rose later =
       all = λ decided. refl;
       failed = λ failed. rose (only_failed f (ap Some (sym is) ∙ failed));
     }
+
+-- a file that the host couldn't fetch was fetched last
+pub failed_last : (name : Text) (f : HostFault) (r : Refusal) (h k : Outside) → r ≡ host_refusal f → (f ≡ host.Failed → k ≡ counted (with_calls h (fetching name ∷ [])) k.faults)
+    → r ≡ refusal.HostFault → WasFetchedLast name k
+failed_last name f r h k is calls failed = record { before = h.calls; last = ap (λ (o : Outside). o.calls) (calls (only_failed f (ap Some (sym is ∙ failed)))) }
 
 -- ---- several files
 

@@ -10,4 +10,4 @@ pub mod LongDisks
 pub mod ReadDisks
 pub mod ReadSchedules
 pub mod RunCounts
-pub mod RunWords
+pub mod Named

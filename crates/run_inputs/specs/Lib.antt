@@ -1,3 +1,4 @@
+pub mod Causes
 pub mod Conversions
 pub mod Fetching
 pub mod InputDisks

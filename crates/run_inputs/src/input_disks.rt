@@ -1,12 +1,14 @@
 //! The disks that a machine starts with: each is fetched if a file is named for it, and checked.
 
-ghost use Rattle.std.specs.Prelude.{◌≡◌, None, IfOk, IfErr, option_map};
+ghost use Rattle.std.specs.Prelude.{◌≡◌, None, IfOk, IfErr, IsErrOf, option_map};
 ghost use Rattle.std.specs.Option.{unwrap_or};
 ghost use Rattle.lfs_layout.specs.Images.{opened};
+ghost use Rattle.run_inputs.specs.Causes.{MayBeFetchedLast};
 ghost use Rattle.run_inputs.specs.Fetching.{FetchesFiles, IsOfHost, MayBeFetched, refusal_of};
 ghost use Rattle.run_inputs.specs.InputDisks.{IsDiskCause, disk_fault, empty_disk0, empty_disk1, raw_fault};
 ghost use Rattle.run_inputs.specs.InputFiles.{if_named};
 ghost use Rattle.run_inputs.specs.Reading.{ReadsDisk};
+ghost use Rattle.run_inputs.specs.declared.refusals.Refusal.TheVariants as refusal;
 
 use crate::fetching::fetch_file;
 use crate::refusals::Refusal;
@@ -30,6 +32,7 @@ pub(crate) fn fetch_raw_disk<H: Host>(
     host: &mut H,
 ) -> Result<RawImage, Refusal>
     ensures reads { ReadsDisk 0 raw_fault (λ image. image) empty_disk0 (option_map (λ s. s.now) name.entry) result (H.view host.old) (H.view host.new) }
+    ensures last { IsErrOf result refusal.HostFault → MayBeFetchedLast (option_map (λ s. s.now) name.entry) (H.view host.new) }
 {
     let bytes = fetch_disk(alloc, name, host)?;
     raw_disk(alloc, bytes)
@@ -45,6 +48,7 @@ pub(crate) fn fetch_clean_disk<H: Host>(
     host: &mut H,
 ) -> Result<CleanImage, Refusal>
     ensures reads { ReadsDisk 1 disk_fault opened empty_disk1 (option_map (λ s. s.now) name.entry) result (H.view host.old) (H.view host.new) }
+    ensures last { IsErrOf result refusal.HostFault → MayBeFetchedLast (option_map (λ s. s.now) name.entry) (H.view host.new) }
 {
     let bytes = fetch_disk(alloc, name, host)?;
     clean_disk(alloc, bytes)
@@ -59,6 +63,7 @@ fn fetch_disk<H: Host>(
     ensures bytes { IfOk result (λ o. MayBeFetched 33557504 (option_map (λ s. s.now) name.entry) (H.view host.old).file (option_map (λ v. v.items) o)) }
     ensures cause { IfErr result IsOfHost }
     ensures fetches { FetchesFiles (if_named (option_map (λ s. s.now) name.entry)) (refusal_of result) (H.view host.old) (H.view host.new) }
+    ensures last { IsErrOf result refusal.HostFault → MayBeFetchedLast (option_map (λ s. s.now) name.entry) (H.view host.new) }
 {
     match name {
         Some(name) => match fetch_file(alloc, name, LONGEST_DISK, host) {

@@ -1,71 +1,72 @@
-//! The inputs that the words of a command name, for programs that take those of `run`.
+//! The words of a command that takes the inputs of a run, and the inputs that they name.
 
-ghost use Rattle.std.specs.Prelude.{◌≡◌, ◌≤◌, false, Some, IfOk, length, map};
+ghost use Rattle.std.specs.Prelude.{◌≡◌, ◌≤◌, [], false, IfOk, IfErr, codes, length, map};
 ghost use Rattle.std.specs.String.{string_bytes};
-ghost use Rattle.command_line.specs.Commands.{Run, command_of};
-ghost use Rattle.command_line.specs.Names.{run_names};
+ghost use Rattle.std.specs.Option.{unwrap_or};
+ghost use Rattle.command_line.specs.Reading.{option_value};
+ghost use Rattle.command_words.specs.ToolNames.{taken_words};
+ghost use Rattle.command_words.specs.Tools.{rows_of};
+ghost use Rattle.command_words.specs.Words as words;
+ghost use Rattle.run_inputs.specs.Causes.{NamesLast, refused};
 ghost use Rattle.run_inputs.specs.InputFaults.{have_fault};
-ghost use Rattle.run_inputs.specs.Words as words;
-ghost use Rattle.run_inputs.specs.Words.{ReadsRun, inputs_asked};
+ghost use Rattle.run_inputs.specs.Reading.{ReadsInputs};
+ghost use Rattle.run_inputs.specs.Words.{IsWordsCause, inputs_in};
 
-use crate::inputs::{InputFiles, Inputs, fetch_inputs};
+use crate::causes::Cause;
+use crate::inputs::{InputFiles, Inputs, fetch_named};
 use crate::refusals::Refusal;
-use command_line::{Command, RunFiles};
+use command_words::{Taken, Tool, words_of};
 use host_port::Host;
 use std::alloc::Global;
 
-/// Fetches and judges the inputs that arguments name: those of the command `run`, with its name before them, without what concerns the
-/// output of the run.
+/// What the arguments after the program's name say, by the table of a command.
 ///
 /// # Errors
-/// `Usage` if they give no run, or ask for plain output or for a file of a disk at the end; the refusal of the first file that isn't
-/// accepted; `HostFault` if the host failed; `NoMemory`.
-pub fn fetch_run<H: Host>(alloc: Global, args: &[String], host: &mut H) -> Result<Inputs, Refusal>
-    ensures reads { ReadsRun (inputs_asked (command_of (map string_bytes args.now))) result (H.view host.old) (H.view host.new) }
-    ensures good { IfOk result (λ x. have_fault (map (λ v. v.items) x.images.items) ≡ false) }
-    ensures some { IfOk result (λ x. 1 ≤ length x.images.items) }
-    ensures few { IfOk result (λ x. length x.images.items ≤ 8) }
-    ensures events { IfOk result (λ x. length x.schedule ≤ 1000000000) }
+/// What is wrong with them; out of memory.
+pub fn read_words<'a>(alloc: Global, tool: Tool, args: &'a [String]) -> Result<Taken<'a>, Cause<'a>>
+    ensures words { IfOk result (λ t. words.words_of (rows_of tool) (map string_bytes args.entry.now) ≡ Ok (taken_words t)) }
+    ensures cause { IfErr result (IsWordsCause (words.words_of (rows_of tool) (map string_bytes args.entry.now))) }
+    ensures some { IfOk result (λ t. 1 ≤ length t.images.items) }
+    ensures few { IfOk result (λ t. length t.images.items ≤ 8) }
 {
-    let command = match command_line::command_of(alloc, args) {
-        Ok(command) => command,
-        Err(fault) => return Err(Refusal::from(fault)),
-    };
-    match command {
-        Command::Run(files) => fetch_files(alloc, &files, host),
-        _ => Err(Refusal::Usage),
+    match words_of(alloc, tool, args) {
+        Ok(Ok(taken)) => Ok(taken),
+        Ok(Err(fault)) => Err(Cause::Words(fault)),
+        Err(_) => Err(Cause::Refused(Refusal::NoMemory)),
     }
 }
 
-// Fetches and judges the inputs of a run, unless something is asked of its output.
-fn fetch_files<H: Host>(
+/// Fetches and judges the inputs that the words of a command name.
+///
+/// # Errors
+/// The refusal of the first file that isn't accepted, or the name of the first that can't be read; out of memory.
+pub fn fetch_words<'a, H: Host>(
     alloc: Global,
-    files: &RunFiles<'_>,
+    words: &Taken<'a>,
     host: &mut H,
-) -> Result<Inputs, Refusal>
-    requires some { 1 ≤ length files.now.images.items }
-    requires few { length files.now.images.items ≤ 8 }
-    ensures reads { ReadsRun (inputs_asked (Some (Run (run_names files.now)))) result (H.view host.old) (H.view host.new) }
+) -> Result<Inputs, Cause<'a>>
+    requires few { length words.now.images.items ≤ 8 }
+    ensures reads { ReadsInputs (inputs_in (taken_words words.now)) (refused result) (H.view host.old) (H.view host.new) }
+    ensures last { IfErr result (λ c. NamesLast c (H.view host.new)) }
     ensures good { IfOk result (λ x. have_fault (map (λ v. v.items) x.images.items) ≡ false) }
-    ensures some { IfOk result (λ x. 1 ≤ length x.images.items) }
-    ensures few { IfOk result (λ x. length x.images.items ≤ 8) }
+    ensures count { IfOk result (λ x. length x.images.items ≡ length words.now.images.items) }
     ensures events { IfOk result (λ x. length x.schedule ≤ 1000000000) }
 {
-    if asks_output(files) {
-        return Err(Refusal::Usage);
-    }
-    let names = InputFiles {
-        schedule: files.schedule,
-        disk0: files.disks.disk0,
-        disk1: files.disks.disk1,
-        images: files.images.as_slice(),
+    let files = InputFiles {
+        schedule: schedule_in(words),
+        disk0: words.value("disk0"),
+        disk1: words.value("disk1"),
+        images: words.images.as_slice(),
     };
-    fetch_inputs(alloc, names, host)
+    fetch_named(alloc, files, host)
 }
 
-// Whether something is asked of the output of a run.
-fn asks_output(files: &RunFiles<'_>) -> bool
-    ensures asks { result ≡ words.asks_output (run_names files.now) }
+// The name of the schedule's file: each command needs one.
+fn schedule_in<'a>(words: &Taken<'a>) -> &'a str
+    ensures schedule { result.now ≡ unwrap_or (option_value (codes "schedule") (taken_words words.now)) [] }
 {
-    files.plain || files.disks.out0.is_some() || files.disks.out1.is_some()
+    match words.value("schedule") {
+        Some(name) => name,
+        None => "",
+    }
 }

@@ -21,6 +21,7 @@ returns-then-len-gt-LONGEST_SCHEDULE g c =
     let items = c.in_ok-text.text.items in
     record {
       reads = schedule_bad c.args.name.now 0 items h k c.in_ok-text.ensures.bytes.front c.in_ok-text.ensures.fetches (schedule_fault-long items (omega arith));
+      last = λ is. absurd (cc);
       few = tt;
     }
 
