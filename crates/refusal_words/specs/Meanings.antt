@@ -1,6 +1,10 @@
 -- What a refusal means, in words.
 use Rattle.std.specs.Prelude.{◌==◌, ℕ, if◌then◌else◌, List, [], ◌++◌, codes}
 use Rattle.std.specs.Fmt.{decimal}
+use Rattle.command_words.specs.ToolNames.{cause_of}
+use Rattle.refusal_words.specs.WordsFaults.{joined, words_text}
+use Rattle.run_inputs.specs.declared.causes.Cause.{Cause}
+use Rattle.run_inputs.specs.declared.causes.Cause.TheVariants as cause
 use Rattle.run_inputs.specs.declared.refusals.Refusal.{Refusal}
 use Rattle.run_inputs.specs.declared.refusals.Refusal.TheVariants as refusal
 
@@ -61,14 +65,10 @@ disk_fault disk block rule =
     if disk == 0 then codes "disk 0 isn't 8 to 65536 blocks of 512 bytes\n"
     else numbered (codes "disk 1, block ") block (codes ": ") (disk_rule rule)
 
--- three parts of a line
-abbrev pub joined : List ℕ → List ℕ → List ℕ → List ℕ
-joined before middle after = before ++ middle ++ after
-
 -- what a refusal means, in a line; the words of the command, if the arguments are wrong; nothing if the refusal's own text says it
 unfoldable pub meaning : List ℕ → Refusal → List ℕ
 meaning usage refusal.Usage = joined (codes "the words are ") usage (codes "\n")
-meaning usage refusal.HostFault = codes "a file can't be read or written: is each name right?\n"
+meaning usage refusal.HostFault = codes "the input or the output failed\n"
 meaning usage (refusal.Image i f) = numbered (codes "image ") i (codes ": ") (image_fault f)
 meaning usage (refusal.Schedule l) = schedule_fault l
 meaning usage (refusal.Disk d b r) = disk_fault d b r
@@ -79,3 +79,10 @@ meaning usage (refusal.Asm l f) = []
 meaning usage refusal.TraceTooLong = []
 meaning usage refusal.NoSuchFile = []
 meaning usage refusal.DoesNotFit = []
+
+-- what a cause means: what is wrong with the words of the command, and what they are; which file can't be read or written; or what the refusal means
+unfoldable pub cause_meaning : List ℕ → Cause → List ℕ
+cause_meaning usage (cause.Words fault) = words_text (cause_of fault) ++ meaning usage refusal.Usage
+cause_meaning usage (cause.Unread name) = joined (codes "the file ") name.now (codes " can't be read: is its name right?\n")
+cause_meaning usage (cause.Unwritten name) = joined (codes "the file ") name.now (codes " can't be written: is its name right?\n")
+cause_meaning usage (cause.Refused r) = meaning usage r

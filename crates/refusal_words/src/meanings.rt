@@ -1,23 +1,50 @@
-//! What a refusal means, in words.
+//! What a refusal or another cause means, in words.
 
 ghost use Rattle.std.specs.Prelude.{◌≡◌, ◌++◌, IfOk, OnOk};
 ghost use Rattle.refusal_words.specs.Meanings as spec;
 
+use crate::words_faults::{push_joined, push_words_fault};
 use itoa::Buffer;
-use run_inputs::Refusal;
+use run_inputs::{Cause, Refusal};
 use std::alloc::{AllocError, Global};
 
-/// What a refusal means, in a line; empty for one whose own text says it. `usage` has the words of the command, which are shown if the arguments
-/// are wrong.
+/// What a cause means, in a line or two; empty for one whose own text says it. `usage` has the words of the command, which are shown if its
+/// arguments are wrong.
 ///
 /// # Errors
 /// Out of memory.
-pub fn meaning(alloc: Global, refusal: Refusal, usage: &str) -> Result<Vec<u8>, AllocError>
-    ensures text { IfOk result (λ text. text.items ≡ spec.meaning usage.now refusal) }
+pub fn meaning(alloc: Global, cause: Cause<'_>, usage: &str) -> Result<Vec<u8>, AllocError>
+    ensures text { IfOk result (λ text. text.items ≡ spec.cause_meaning usage.now cause.entry) }
 {
     let mut text = Vec::new(alloc);
-    push_meaning(&mut text, refusal, usage)?;
+    push_cause(&mut text, cause, usage)?;
     Ok(text)
+}
+
+// Appends what a cause means.
+#[tactic(auto, unfolding(crate::specs::Meanings::cause_meaning))]
+fn push_cause(text: &mut Vec<u8>, cause: Cause<'_>, usage: &str) -> Result<(), AllocError>
+    ensures meaning { OnOk result (text.new.items ≡ text.old.items ++ spec.cause_meaning usage.now cause.entry) }
+{
+    match cause {
+        Cause::Words(fault) => {
+            push_words_fault(text, fault)?;
+            push_meaning(text, Refusal::Usage, usage)
+        }
+        Cause::Unread(name) => push_joined(
+            text,
+            "the file ",
+            name,
+            " can't be read: is its name right?\n",
+        ),
+        Cause::Unwritten(name) => push_joined(
+            text,
+            "the file ",
+            name,
+            " can't be written: is its name right?\n",
+        ),
+        Cause::Refused(refusal) => push_meaning(text, refusal, usage),
+    }
 }
 
 // Appends what a refusal means.
@@ -27,9 +54,7 @@ fn push_meaning(text: &mut Vec<u8>, refusal: Refusal, usage: &str) -> Result<(),
 {
     match refusal {
         Refusal::Usage => push_joined(text, "the words are ", usage, "\n"),
-        Refusal::HostFault => {
-            text.extend_from_slice(b"a file can't be read or written: is each name right?\n")
-        }
+        Refusal::HostFault => text.extend_from_slice(b"the input or the output failed\n"),
         Refusal::Image { image, fault } => {
             push_numbered(text, "image ", image as u32, ": ", image_fault(fault))
         }
@@ -55,20 +80,6 @@ fn push_meaning(text: &mut Vec<u8>, refusal: Refusal, usage: &str) -> Result<(),
         | Refusal::NoSuchFile
         | Refusal::DoesNotFit => Ok(()),
     }
-}
-
-// Appends three parts of a line.
-fn push_joined(
-    text: &mut Vec<u8>,
-    before: &str,
-    middle: &str,
-    after: &str,
-) -> Result<(), AllocError>
-    ensures joined { OnOk result (text.new.items ≡ text.old.items ++ spec.joined before.now middle.now after.now) }
-{
-    text.extend_from_slice(before.as_bytes())?;
-    text.extend_from_slice(middle.as_bytes())?;
-    text.extend_from_slice(after.as_bytes())
 }
 
 // Appends what the schedule is refused for at a line.
