@@ -1,5 +1,5 @@
 -- Ends of an answer.
-use Rattle.std.proofs.Common.{ℕ, ◌≡◌, ◌≢◌, ◌∙◌, ◌≤◌, List, refl, sym, arith, ap, subst}
+use Rattle.std.proofs.Common.{ℕ, ◌≡◌, ◌∙◌, ◌≤◌, List, refl, sym, arith, ap, subst}
 use Rattle.host_port.specs.HostCalls.{Rose}
 use Rattle.host_port.specs.Outside.{Outside, counted, fetching, with_calls}
 use Rattle.run_inputs.proofs.FetchedFiles.{fetched_front}

@@ -1,15 +1,17 @@
 //! The command: its source is fetched, and what its bytes deserve is answered.
 
-ghost use Rattle.std.specs.Prelude.{◌≡◌, ◌≤◌, length, map};
+ghost use Rattle.std.specs.Prelude.{◌≡◌, ◌≤◌, codes, length, map};
 ghost use Rattle.std.specs.String.{string_bytes};
 ghost use Rattle.fault_words.specs.Texts.{told};
 ghost use Rattle.listing_command.specs.Answers.{AnswersFile, AnswersWords, Ends, Lists, Refuses};
 ghost use Rattle.listing_command.specs.Answers as spec;
+ghost use Rattle.refusal_words.specs.Meanings.{meaning};
+ghost use Rattle.refusal_words.specs.Tellings.{TellsInWords};
 
 use fault_words::tell_fault;
 use host_port::{Channel, Host, HostFault};
-use refusal_words::{tell, tell_meaning};
-use run_inputs::Refusal;
+use refusal_words::{tell, tell_cause};
+use run_inputs::{Cause, Refusal};
 use rv_asm::{AsmFault, list};
 use std::alloc::Global;
 
@@ -32,8 +34,8 @@ pub fn listing<H: Host>(alloc: Global, args: &[String], host: &mut H) -> u8
 {
     match args {
         [name] => answer_file(alloc, name.as_str(), host),
-        [] => tell_meaning(alloc, Refusal::Usage, USAGE, host),
-        [_first, _second, _rest @ ..] => tell_meaning(alloc, Refusal::Usage, USAGE, host),
+        [] => tell_refusal(alloc, Refusal::Usage, host),
+        [_first, _second, _rest @ ..] => tell_refusal(alloc, Refusal::Usage, host),
     }
 }
 
@@ -43,8 +45,8 @@ fn answer_file<H: Host>(alloc: Global, name: &str, host: &mut H) -> u8
 {
     match host.fetch(alloc, name, LONGEST_SOURCE) {
         Ok(source) => answer(alloc, source.as_slice(), host),
-        Err(HostFault::Failed) => tell_meaning(alloc, Refusal::HostFault, USAGE, host),
-        Err(HostFault::NoMemory) => tell_meaning(alloc, Refusal::NoMemory, USAGE, host),
+        Err(HostFault::Failed) => tell_cause(alloc, Cause::Unread(name), USAGE, host),
+        Err(HostFault::NoMemory) => tell_refusal(alloc, Refusal::NoMemory, host),
     }
 }
 
@@ -71,8 +73,8 @@ fn send<H: Host>(alloc: Global, text: &[u8], host: &mut H) -> u8
 {
     match host.emit(Channel::Out, text) {
         Ok(()) => 0,
-        Err(HostFault::Failed) => tell_meaning(alloc, Refusal::HostFault, USAGE, host),
-        Err(HostFault::NoMemory) => tell_meaning(alloc, Refusal::NoMemory, USAGE, host),
+        Err(HostFault::Failed) => tell_refusal(alloc, Refusal::HostFault, host),
+        Err(HostFault::NoMemory) => tell_refusal(alloc, Refusal::NoMemory, host),
     }
 }
 
@@ -83,7 +85,7 @@ fn refuse_source<H: Host>(alloc: Global, fault: AsmFault, source: &[u8], host: &
 {
     match tell_fault(alloc, fault, source) {
         Ok(line) => tell(asm_refusal(fault), line.as_slice(), host),
-        Err(_) => tell_meaning(alloc, Refusal::NoMemory, USAGE, host),
+        Err(_) => tell_refusal(alloc, Refusal::NoMemory, host),
     }
 }
 
@@ -98,4 +100,12 @@ fn asm_refusal(fault: AsmFault) -> Refusal
         AsmFault::DoubleLabel(line) => Refusal::Asm { line, fault: 4 },
         AsmFault::NoMemory => Refusal::NoMemory,
     }
+}
+
+// Tells a refusal with the line that it means.
+#[tactic(auto, unfolding(refusal_words::specs::Meanings::cause_meaning))]
+fn tell_refusal<H: Host>(alloc: Global, refusal: Refusal, host: &mut H) -> u8
+    ensures tells { TellsInWords refusal (meaning (codes "SOURCE") refusal) result (H.view host.old) (H.view host.new) }
+{
+    tell_cause(alloc, Cause::Refused(refusal), USAGE, host)
 }

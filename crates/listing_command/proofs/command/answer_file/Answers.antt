@@ -19,13 +19,13 @@ pub returns-in-Err-Failed : goal.returns-in-Err-Failed
 returns-in-Err-Failed g c = record {
   answers = answers_unread c.args.name.now _ _ _
       (ends_failed (Lists []) _ _ _ _ _ c.fetch.ensures.cause.later
-      (c.fetch.ensures.cause.failed (c.in-Err-Failed.is ∙ ap Err c.in-Err-Failed.field-0-is)) c.tell_meaning.ensures.tells)
-      (never_done _ refusal.HostFault _ _ _ (λ e. cc) c.tell_meaning.ensures.tells);
+      (c.fetch.ensures.cause.failed (c.in-Err-Failed.is ∙ ap Err c.in-Err-Failed.field-0-is)) c.tell_cause.ensures.tells)
+      (never_done _ refusal.HostFault _ _ _ (λ e. cc) c.tell_cause.ensures.tells);
 }
 
 pub returns-in-Err-NoMemory : goal.returns-in-Err-NoMemory
 returns-in-Err-NoMemory g c = record {
   answers = answers_unread c.args.name.now _ _ _
-      (ends_lost (Lists []) _ _ _ _ _ c.fetch.ensures.cause.later c.tell_meaning-in-Err-NoMemory.ensures.tells)
-      (never_done _ refusal.NoMemory _ _ _ (λ e. cc) c.tell_meaning-in-Err-NoMemory.ensures.tells);
+      (ends_lost (Lists []) _ _ _ _ _ c.fetch.ensures.cause.later c.tell_refusal.ensures.tells)
+      (never_done _ refusal.NoMemory _ _ _ (λ e. cc) c.tell_refusal.ensures.tells);
 }

@@ -17,10 +17,10 @@ pub returns-in-Err-Failed : goal.returns-in-Err-Failed
 returns-in-Err-Failed g c = record {
   sends = ends_failed (Lists c.args.text.now) _ _ _ _ _ c.emit.ensures.cause.later
       (c.emit.ensures.cause.failed (c.in-Err-Failed.is ∙ ap Err c.in-Err-Failed.field-0-is))
-      c.tell_meaning.ensures.tells;
+      c.tell_refusal.ensures.tells;
 }
 
 pub returns-in-Err-NoMemory : goal.returns-in-Err-NoMemory
 returns-in-Err-NoMemory g c = record {
-  sends = ends_lost (Lists c.args.text.now) _ _ _ _ _ c.emit.ensures.cause.later c.tell_meaning-in-Err-NoMemory.ensures.tells;
+  sends = ends_lost (Lists c.args.text.now) _ _ _ _ _ c.emit.ensures.cause.later c.tell_refusal-in-Err-NoMemory.ensures.tells;
 }
