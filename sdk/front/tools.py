@@ -37,7 +37,7 @@ COMPILER_TOOL = Tool(COMPILER, "compiles programs in C", "gcc-riscv64-unknown-el
 LIBRARY = Tool("picolibc", "the C library of sdk/libc", "picolibc-riscv64-unknown-elf", has_library)
 GDB_TOOL = Tool(GDB, "debugs a run, forward and backward", "gdb-multiarch", is_program(GDB))
 PATCH = Tool("patch", "makes the solution of lab 9, and the programs that try the grader", "patch", is_program("patch"))
-HOST_COMPILER = Tool("cc", "compiles programs for this computer: examples/heap_in_c, labs/own_kernel", "gcc", is_program("cc"))
+HOST_COMPILER = Tool("cc", "compiles programs for this computer: examples/heap_in_c and the like, labs/own_kernel", "gcc", is_program("cc"))
 TOOLCHAIN = Tool("rt", "Rattle's toolchain: builds xinu_run, and proves it", None, is_program("rt"), "install the toolchain of Rattle")
 
 ALL = [TOOLCHAIN, PYTHON, MAKE, COMPILER_TOOL, LIBRARY, GDB_TOOL, PATCH, HOST_COMPILER]
