@@ -172,20 +172,20 @@ readable disk is =
     nothing (Some a) h = absurd (false≢true h)
 
 -- a test passes, if what depends on it does
-tested : (a b : Bool) → (if a then b else false) ≡ true → (a ≡ true) × (b ≡ true)
+pub tested : (a b : Bool) → (if a then b else false) ≡ true → (a ≡ true) × (b ≡ true)
 tested true b h = (refl, h)
 tested false b h = absurd (false≢true h)
 
-number_is : (a b : ℕ) → (a == b) ≡ true → a ≡ b
+pub number_is : (a b : ℕ) → (a == b) ≡ true → a ≡ b
 number_is a b t = grind (arith, nat_tests)
 
 -- bytes that were found and compared are these
-found_bytes : (o : Option (List ℕ)) (bytes : List ℕ) → has_bytes o bytes ≡ true → o ≡ Some bytes
+pub found_bytes : (o : Option (List ℕ)) (bytes : List ℕ) → has_bytes o bytes ≡ true → o ≡ Some bytes
 found_bytes None bytes h = absurd (false≢true h)
 found_bytes (Some b) bytes h = ap Some ((bytes_eq-Decides b bytes).0 h)
 
 -- a name that was found is that of an entry with these bytes
-entry_found : (f : Entry → List ℕ) (o : Option Entry) (bytes : List ℕ) → option_map f o ≡ Some bytes → (e : Entry) × ((o ≡ Some e) × (f e ≡ bytes))
+pub entry_found : (f : Entry → List ℕ) (o : Option Entry) (bytes : List ℕ) → option_map f o ≡ Some bytes → (e : Entry) × ((o ≡ Some e) × (f e ≡ bytes))
 entry_found f None bytes h = absurd (cc)
 entry_found f (Some e) bytes h = (e, (refl, (cc)))
 
@@ -235,6 +235,11 @@ none_held disk text is h k lt =
     let long : length es ≡ 78 = ap length same ∙ d.many in
     ap (λ (l : List Entry). is_this name (get_or l k void_entry)) (sym same) ∙ none_passes (is_this name) es none k (omega (arith, lt, long))
 
+-- a judgement of 1 is a yes
+pub true_of : (b : Bool) → ◌≡◌ {A = ℕ} (if b then 1 else 0) 1 → b ≡ true
+true_of true h = refl
+true_of false h = absurd (omega (arith, h))
+
 -- a file that is judged to be held is, as it is said
 pub judged_held : (disk texts : List ℕ) (f : FileAtRest) → is_disk disk ≡ true
     → judged (kept_files disk) (directory_entries (geometry_of disk) disk) texts f ≡ 1 → IsHeld disk texts f
@@ -246,13 +251,9 @@ judged_held disk texts f is one = go (f.exists == 0) inner
     E : List Entry
     E = directory_entries (geometry_of disk) disk
 
-    yes : (b : Bool) → ◌≡◌ {A = ℕ} (if b then 1 else 0) 1 → b ≡ true
-    yes true h = refl
-    yes false h = absurd (omega (arith, h))
-
     inner : (if f.exists == 0 then holds_none E (name_in texts f) else holds_file K E (name_in texts f) (span texts f.at f.bytes)) ≡ true
     inner =
-        (tested (is_span texts f.at f.bytes) _ (tested (is_span texts f.name f.name_bytes) _ (yes (holds K E texts f) one)).1).1
+        (tested (is_span texts f.at f.bytes) _ (tested (is_span texts f.name f.name_bytes) _ (true_of (holds K E texts f) one)).1).1
 
     go : (t : Bool) → (if t then holds_none E (name_in texts f) else holds_file K E (name_in texts f) (span texts f.at f.bytes)) ≡ true
         → HasStored disk (padded_name (name_in texts f)) (if t then None else Some (record { name = name_in texts f; bytes = span texts f.at f.bytes }))

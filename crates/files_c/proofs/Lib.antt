@@ -4,3 +4,4 @@ pub mod Going
 pub mod Effects
 pub mod Held
 pub mod Starting
+pub mod Apart

@@ -8,7 +8,7 @@
 //! |---|---|
 //! | [`file_answers`] | `answered`, `bytes`: the answers are the abstract machine's, and so are the bytes that reads leave (`answers_of`, `bytes_after` in `specs/Answers.antt`); `ranges`: `NO_DISK` if and only if there is no disk of so many blocks, or there isn't an answer for each call; `stays`, `bytes_stay`: then nothing is written, nor if memory runs out |
 //! | [`disk_answers`] | `answered`: the answers are the judgements of `specs/Judging.antt`: of each file whether one entry has its name and the disk's repair keeps it with its bytes; `ranges`: `NO_DISK` if and only if the bytes are no disk of version 2, or there isn't an answer for each file; `stays`: then nothing is written, nor if memory runs out |
-//! | [`judged_files_are_held`] | a law: the disk has each file that is judged to be held, as the kernel's disk has its files at rest at each moment (`HasStored` in `file_laws/specs/Holds`) |
+//! | [`judged_files_are_held`], [`judged_files_are_apart`] | laws: the disk has each file that is judged to be held, as the kernel's disk has its files at rest at each moment (`HasStored` in `file_laws/specs/Holds`); no block is in two such files, nor twice in one |
 //!
 //! The engine (`local_files`) wants its blocks from a disk that is empty at first; the loop that serves it is in `src/making.rt`. The
 //! archive needs `rattle_alloc`, `rattle_realloc` and `rattle_dealloc`, which the toolchain's C library has.
@@ -28,7 +28,7 @@ pub use calls::FilesCall;
 use calls::answer_all;
 pub use judging::FileAtRest;
 use judging::{is_disk, judge};
-pub use laws::judged_files_are_held;
+pub use laws::{judged_files_are_apart, judged_files_are_held};
 use lfs_layout::{CleanImage, made_images_hold_their_files};
 use local_files::Files;
 use std::alloc::Global;
