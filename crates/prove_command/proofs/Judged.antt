@@ -63,23 +63,23 @@ faulty_in files (refusal.Image i f) is = is
 faulty_in files refusal.NoMemory is = tt
 faulty_in files _ is = absurd is
 
-pub judged_refused : (l : Lock) (files : List (List ℕ)) (cause : Refusal) (h : Outside) → AreRefused files cause → Judges l files (Err cause) h h
-judged_refused l files (refusal.Image i f) h is = (is, refl)
-judged_refused l files (refusal.Overlap i) h is = (is, refl)
-judged_refused l files (refusal.NoRoom i) h is = (is, refl)
-judged_refused l files refusal.NoMemory h is = inl refl
-judged_refused l files _ h is = absurd is
+pub judged_refused : (a : Asked) (files : List (List ℕ)) (cause : Refusal) (h : Outside) → AreRefused files cause → Judges a files (Err cause) h h
+judged_refused a files (refusal.Image i f) h is = (is, refl)
+judged_refused a files (refusal.Overlap i) h is = (is, refl)
+judged_refused a files (refusal.NoRoom i) h is = (is, refl)
+judged_refused a files refusal.NoMemory h is = inl refl
+judged_refused a files _ h is = absurd is
 
-pub judged_unsent : (l : Lock) (files : List (List ℕ)) (status : ℕ) (cause : Refusal) (old new : Outside) → AreAnswered l files status
-    → IsUnsent cause old new → Judges l files (Err cause) old new
-judged_unsent l files status refusal.HostFault old new answered is = (answered.boot, is)
-judged_unsent l files status refusal.NoMemory old new answered is = is
-judged_unsent l files status _ old new answered is = absurd is
+pub judged_unsent : (a : Asked) (files : List (List ℕ)) (status : ℕ) (cause : Refusal) (old new : Outside) → AreAnswered a.lock files status
+    → IsUnsent cause old new → Judges a files (Err cause) old new
+judged_unsent a files status refusal.HostFault old new answered is = (answered.boot, is)
+judged_unsent a files status refusal.NoMemory old new answered is = is
+judged_unsent a files status _ old new answered is = absurd is
 
-pub judged_sent : (l : Lock) (files : List (List ℕ)) (s status : ℕ) (old new : Outside) → AreAnswered l files status → s ≡ status → Sends status old new
-    → Judges l files (Ok s) old new
-judged_sent l files s status old new answered is sends =
-    subst (λ z. Judges l files (Ok z) old new) (sym is) (answered, sends)
+pub judged_sent : (a : Asked) (files : List (List ℕ)) (s status : ℕ) (old new : Outside) → AreAnswered a.lock files status → s ≡ status → Sends a status old new
+    → Judges a files (Ok s) old new
+judged_sent a files s status old new answered is sends =
+    subst (λ z. Judges a files (Ok z) old new) (sym is) (answered, sends)
 
 -- ---- of results
 
@@ -93,15 +93,15 @@ pub all_refused : {T : Type 0} (files : List (List ℕ)) (images : List Loaded) 
 all_refused files images (Ok a) loaded is = tt
 all_refused files images (Err cause) loaded is = unbooted_in files images cause loaded is
 
-pub all_judged : (l : Lock) (files : List (List ℕ)) (status : ℕ) (r : Result ℕ Refusal) (old new : Outside) → AreAnswered l files status
-    → IfOk r (λ s. s ≡ status) → IfOk r (λ s. Sends status old new) → IfErr r (λ cause. IsUnsent cause old new) → Judges l files r old new
-all_judged l files status (Ok s) old new answered same sent unsent = judged_sent l files s status old new answered same sent
-all_judged l files status (Err cause) old new answered same sent unsent = judged_unsent l files status cause old new answered unsent
+pub all_judged : (a : Asked) (files : List (List ℕ)) (status : ℕ) (r : Result ℕ Refusal) (old new : Outside) → AreAnswered a.lock files status
+    → IfOk r (λ s. s ≡ status) → IfOk r (λ s. Sends a status old new) → IfErr r (λ cause. IsUnsent cause old new) → Judges a files r old new
+all_judged a files status (Ok s) old new answered same sent unsent = judged_sent a files s status old new answered same sent
+all_judged a files status (Err cause) old new answered same sent unsent = judged_unsent a files status cause old new answered unsent
 
 -- ---- the command
 
 pub obeys_fetched : (a : Asked) (bytes : List (List ℕ)) (ended : Result ℕ Refusal) (old read new : Outside) → FetchesFiles a.images None old read
-    → AreFetched old.file a.images bytes → Judges a.lock bytes ended read new → Obeys a ended old new
+    → AreFetched old.file a.images bytes → Judges a bytes ended read new → Obeys a ended old new
 obeys_fetched a bytes ended old read new fetches fetched judges = record {
   files = Ok bytes;
   read = read;
@@ -147,12 +147,12 @@ not_zero refusal.TraceTooLong is = absurd (omega (arith, is))
 not_zero refusal.NoSuchFile is = absurd (omega (arith, is))
 not_zero refusal.DoesNotFit is = absurd (omega (arith, is))
 
-judged_zero : (l : Lock) (names : List (List ℕ)) (files : Result (List (List ℕ)) Refusal) (status : ℕ) (file : List ℕ → Option (List ℕ)) (read new : Outside)
-    → ((bytes : List (List ℕ)) → files ≡ Ok bytes → AreFetched file names bytes) → Continues l files (Ok status) read new → status ≡ 0
-    → IsProvedOf l names file
-judged_zero l names (Ok bytes) status file read new fetched judges is =
+judged_zero : (a : Asked) (files : Result (List (List ℕ)) Refusal) (status : ℕ) (file : List ℕ → Option (List ℕ)) (read new : Outside)
+    → ((bytes : List (List ℕ)) → files ≡ Ok bytes → AreFetched file a.images bytes) → Continues a files (Ok status) read new → status ≡ 0
+    → IsProvedOf a.lock a.images file
+judged_zero a (Ok bytes) status file read new fetched judges is =
     record { files = bytes; fetched = fetched bytes refl; proved = judges.0.proved is }
-judged_zero l names (Err cause) status file read new fetched judges is = let e = judges.0 in absurd (cc)
+judged_zero a (Err cause) status file read new fetched judges is = let e = judges.0 in absurd (cc)
 
 -- A command that ends with it proves what is asked.
 pub proves_asked : (exit : ℕ) (args : List (List ℕ)) (ended : Result ℕ Refusal) (old mid new : Outside) → Carries (asked args) ended old mid
@@ -166,4 +166,4 @@ proves_asked exit args (Ok status) old mid new carries tells is = by (asked args
     by None e (inr nothing) = let f = nothing.cause in absurd (cc)
     by (Some a) e (inr nothing) = let f = nothing.cause in absurd (cc)
     by (Some a) e (inl obeys) =
-        record { ask = a; asks = e; proved = judged_zero a.lock a.images obeys.files status old.file obeys.read mid obeys.fetched obeys.continues (sym tells.0 ∙ is) }
+        record { ask = a; asks = e; proved = judged_zero a obeys.files status old.file obeys.read mid obeys.fetched obeys.continues (sym tells.0 ∙ is) }

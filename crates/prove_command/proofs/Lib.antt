@@ -1,5 +1,6 @@
 pub mod Files
 pub mod Judged
+pub mod Lines
 pub mod Marks
 pub mod Numbers
 pub mod Proved

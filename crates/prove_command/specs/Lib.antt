@@ -1,3 +1,4 @@
+pub mod FirstLine
 pub mod Named
 pub mod Proved
 pub mod Reading

@@ -1,6 +1,6 @@
 -- The statement of what the command does. Read `Answers`, at the end, first; what is asked is in Words.antt, what is proved of images in Proved.antt
--- and Named.antt.
-use Rattle.std.specs.Prelude.{◌≡◌, ◌⊎◌, ◌-◌, ◌==◌, if◌then◌else◌, ℕ, false, List, [], ◌++◌, take, get_or, Option, Some, None, Result, Ok, Err, codes}
+-- and Named.antt, and how what is sent begins in FirstLine.antt.
+use Rattle.std.specs.Prelude.{◌≡◌, ◌⊎◌, ◌-◌, ℕ, false, List, [], ◌++◌, take, get_or, Option, Some, None, Result, Ok, Err}
 use Rattle.host_port.specs.HostCalls.{Rose}
 use Rattle.host_port.specs.Outside.{Outside, appended, counted}
 use Rattle.host_port.specs.declared.host.Channel.TheVariants.{Out}
@@ -12,6 +12,7 @@ use Rattle.run_inputs.specs.declared.refusals.Refusal.{Refusal}
 use Rattle.run_inputs.specs.declared.refusals.Refusal.TheVariants as refusal
 use Rattle.xinu_model.specs.Boot.{Boots, Loaded, NoRoom, Overlaps, boot}
 use Rattle.xinu_model.specs.Machine.{Xinu}
+use Rattle.prove_command.specs.FirstLine.{head_of}
 use Rattle.prove_command.specs.Named.{AreFetched, AreLoaded, IsProvedIn, IsProvedOf}
 use Rattle.prove_command.specs.Words.{Asked, asked}
 
@@ -69,14 +70,10 @@ AreUnbooted images _ = ⊥
 
 -- ---- what is sent
 
--- how the text begins that is sent with a status
-abbrev pub head_of : ℕ → List ℕ
-head_of status = if status == 0 then codes "proved: " else if status == 10 then codes "not proved: " else codes "cannot follow: "
-
--- A text that begins so was sent, and but for the count of faults nothing else changed.
-pub record Sends (status : ℕ) (old new : Outside) : Type 0 where
+-- A text that begins as the status says was sent, and but for the count of faults nothing else changed.
+pub record Sends (a : Asked) (status : ℕ) (old new : Outside) : Type 0 where
   pub rest : List ℕ
-  pub sent : new ≡ counted (appended old Out (head_of status ++ rest)) new.faults
+  pub sent : new ≡ counted (appended old Out (head_of a status ++ rest)) new.faults
 
 -- Some bytes were sent, and but for the count of faults nothing else changed.
 pub record SendsSome (old new : Outside) : Type 0 where
@@ -90,18 +87,18 @@ IsUnsent refusal.NoMemory old new = (new ≡ old) ⊎ SendsSome old new
 IsUnsent _ old new = ⊥
 
 -- What became of files that were fetched.
-abbrev pub Judges : Lock → List (List ℕ) → Result ℕ Refusal → Outside → Outside → Type 0
-Judges l files (Ok status) old new = AreAnswered l files status × Sends status old new
-Judges l files (Err refusal.HostFault) old new = BootIn files × (SendsSome old new × Rose old.faults new.faults)
-Judges l files (Err refusal.NoMemory) old new = (new ≡ old) ⊎ SendsSome old new
-Judges l files (Err cause) old new = AreRefused files cause × (new ≡ old)
+abbrev pub Judges : Asked → List (List ℕ) → Result ℕ Refusal → Outside → Outside → Type 0
+Judges a files (Ok status) old new = AreAnswered a.lock files status × Sends a status old new
+Judges a files (Err refusal.HostFault) old new = BootIn files × (SendsSome old new × Rose old.faults new.faults)
+Judges a files (Err refusal.NoMemory) old new = (new ≡ old) ⊎ SendsSome old new
+Judges a files (Err cause) old new = AreRefused files cause × (new ≡ old)
 
 -- ---- the command
 
 -- What became of the names: the refusal of the host is that of the command, and fetched files were judged.
-abbrev pub Continues : Lock → Result (List (List ℕ)) Refusal → Result ℕ Refusal → Outside → Outside → Type 0
-Continues l (Err cause) ended old new = (ended ≡ Err cause) × ((new ≡ old) × IsOfHost cause)
-Continues l (Ok files) ended old new = Judges l files ended old new
+abbrev pub Continues : Asked → Result (List (List ℕ)) Refusal → Result ℕ Refusal → Outside → Outside → Type 0
+Continues a (Err cause) ended old new = (ended ≡ Err cause) × ((new ≡ old) × IsOfHost cause)
+Continues a (Ok files) ended old new = Judges a files ended old new
 
 -- The files were fetched in order, all of them unless the host failed or memory ran out, and judged.
 pub record Obeys (a : Asked) (ended : Result ℕ Refusal) (old new : Outside) : Type 0 where
@@ -109,7 +106,7 @@ pub record Obeys (a : Asked) (ended : Result ℕ Refusal) (old new : Outside) : 
   pub read : Outside
   pub fetches : FetchesFiles a.images (refusal_of files) old read
   pub fetched : (bytes : List (List ℕ)) → files ≡ Ok bytes → AreFetched old.file a.images bytes
-  pub continues : Continues a.lock files ended read new
+  pub continues : Continues a files ended read new
 
 -- Memory ran out before anything was done.
 pub record HasNoMemory (ended : Result ℕ Refusal) (old new : Outside) : Type 0 where

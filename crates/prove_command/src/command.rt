@@ -80,10 +80,10 @@ fn judge<H: Host>(
     host: &mut H,
 ) -> Result<u8, Refusal>
     requires few { length files.now ≤ 8 }
-    ensures judges { spec.Judges lock.now (map (λ file. file.items) files.now) result (H.view host.old) (H.view host.new) }
+    ensures judges { spec.Judges (record { lock = lock.now; images = map string_bytes names.now }) (map (λ file. file.items) files.now) result (H.view host.old) (H.view host.new) }
 {
     match answered(alloc, lock, names, files) {
-        Ok((status, text)) => send(alloc, status, text, host),
+        Ok((status, text)) => send(alloc, status, lock, names, text, host),
         Err(cause) => Err(cause),
     }
 }

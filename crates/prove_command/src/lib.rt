@@ -10,7 +10,7 @@
 //! | [`prove_images`] | `proved`: if it answers `Proved` the images boot on any disks, and from there, on every schedule and at each moment, whenever nobody has the token the guarded word is what the rule says, and each process is alive (`IsProved` in `specs/Proved.antt`); `boots`, `refused`: it refuses exactly images that don't boot |
 //!
 //! What the arguments ask is a definition (`asked` in `specs/Words.antt`), and so is what the text of a rule says (`rule_in` in `specs/Rules.antt`).
-//! The text of status 0 begins with `proved: `, that of 10 with `not proved: `, and that of 14 with `cannot follow: `. `NoMemory` is free.
+//! How the text of each status begins is one too, with status 0 its first line (`head_of` in `specs/FirstLine.antt`). `NoMemory` is free.
 //!
 //! An answer other than `Proved` doesn't say that a program is wrong.
 #![tactic(auto)]
@@ -18,6 +18,7 @@
 mod causes;
 mod command;
 mod fetching;
+mod first_line;
 mod judging;
 mod proving;
 mod rule;

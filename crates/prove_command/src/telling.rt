@@ -5,7 +5,7 @@ use printed_runs::Text;
 use program_logic::{Lock, Place, Range, Slot, Term, number_in, once_more};
 use std::alloc::Global;
 
-/// Images are proved: the rule, how many processes there are, and where each has the lock.
+/// Images are proved: what the rounds are, how many processes there are, and where each has the lock.
 pub(crate) fn tell_proof(
     alloc: Global,
     lock: &Lock,
@@ -14,17 +14,8 @@ pub(crate) fn tell_proof(
     ranges: &[Range],
 ) -> Text {
     let mut text = Text::new(alloc);
-    text.numbered("the word at ", lock.word as u64);
-    text.put(" = ");
-    add_term(&mut text, lock.rule);
-    text.numbered(" whenever lock ", lock.sem as u64);
-    text.put(" is free, on every schedule, from boot of");
-    for name in names {
-        text.put(" ");
-        text.put(name.as_str());
-    }
     text.numbered(
-        "\n  rounds: how often the lock was given back (signal on ",
+        "  rounds: how often the lock was given back (signal on ",
         lock.sem as u64,
     );
     text.numbered("); ", names.len() as u64);

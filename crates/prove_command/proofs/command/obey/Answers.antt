@@ -26,8 +26,10 @@ returns-in-Ok g c =
       obeys = obeys_fetched (asked_of c.args.words.now) (map (λ v. v.items) c.in-Ok.files.items) c.judge.result h k (g.H.Host.view c.judge.new.host)
           (subst (λ ns. FetchesFiles ns None h k) names c.in-Ok.ensures.fetches)
           (subst (λ ns. AreFetched h.file ns (map (λ v. v.items) c.in-Ok.files.items)) names c.in-Ok.ensures.fetched)
-          (subst (λ fs. Judges c.args.words.now.lock (map (λ v. v.items) fs) c.judge.result k (g.H.Host.view c.judge.new.host))
-          c.as_slice-in-Ok-2.ensures.value c.judge.ensures.judges);
+          (subst (λ ns. Judges (record { lock = c.args.words.now.lock; images = ns }) (map (λ v. v.items) c.in-Ok.files.items) c.judge.result k (g.H.Host.view c.judge.new.host))
+          (ap (map string_bytes) c.as_slice-in-Ok.ensures.value)
+          (subst (λ fs. Judges (record { lock = c.args.words.now.lock; images = map string_bytes c.as_slice-in-Ok.result.now }) (map (λ v. v.items) fs) c.judge.result k (g.H.Host.view c.judge.new.host))
+          c.as_slice-in-Ok-2.ensures.value c.judge.ensures.judges));
     }
 
 pub returns-in-Err : goal.returns-in-Err
