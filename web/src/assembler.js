@@ -1,5 +1,4 @@
-// assembler.js - where the lines of a program in assembler lie in RAM, as docs/ASSEMBLER.md says
-// It is used only if the end that it comes to is that of the image that `asm` made.
+// assembler.js - where the lines of a program in assembler lie in RAM, and what is wrong with one, as `listing` says (docs/ASSEMBLER.md)
 
 // A line without its comment.
 export function without_comment(line) {
@@ -24,55 +23,34 @@ function parts_of(line) {
 // What a line does, without labels and comment.
 export const instruction_of = (line) => parts_of(line).rest.replace(/\s+/g, " ");
 
-const SETS = [".entry", ".priority", ".stack"];
-// instructions that are two
-const DOUBLE = ["li", "la", "sys"];
-function size_of(word, rest, at) {
-	switch (word) {
-	case ".byte": return 1;
-	case ".zero": return Number(rest);
-	case ".ascii": return rest.trim().slice(1, -1).replace(/\\./g, "x").length;
-	case ".align": return -at & 3;
-	default: return DOUBLE.includes(word) ? 8 : 4;
-	}
-}
-const IS_DATA = [".word", ".byte", ".zero", ".ascii", ".align"];
+const IS_DATA = /^\.(word|byte|zero|ascii|align)\b/;
 
-// { lines, labels, end }: each line that has bytes, with its address and size; each label; where the content ends.
-export function layout_of(text) {
-	const lines = [], labels = [];
-	let at = 0, pending = [];
-	for (const [index, line] of text.split("\n").entries()) {
-		const parts = parts_of(line), [, word = "", rest = ""] = /^(\S+)\s*(.*)$/.exec(parts.rest) || [];
-		pending.push(...parts.labels);
-		if (word === ".place") at = Number(rest);
-		if (!word || word === ".place" || SETS.includes(word)) continue;
-		const size = size_of(word, rest, at), is_data = IS_DATA.includes(word);
-		for (const name of pending) labels.push({ name, at, is_data, size: 0 });
-		pending = [];
-		const owner = labels.findLast((label) => label.is_data && is_data);
-		if (owner && word !== ".align") owner.size += size;
-		lines.push({ line: index + 1, at, size, is_data });
-		at += size;
+// A line of what `listing` prints.
+function row_of(line) {
+	const [number, at, ...content] = line.split(" ");
+	return { line: Number(number), at: parseInt(at, 16), size: content.reduce((size, digits) => size + digits.length / 2, 0) };
+}
+// { lines, labels, end }: each line that has bytes, with its address and size, by what `listing` says of the text; each label, which is where the
+// next line with bytes is; where the content ends.
+export function layout_of(text, listing) {
+	const source = text.split("\n").map(parts_of), rows = listing.split("\n").filter(Boolean).map(row_of), labels = [];
+	const lines = rows.map((row) => ({ ...row, is_data: IS_DATA.test(source[row.line - 1].rest) }));
+	const last = lines.at(-1), end = last ? last.at + last.size : 0;
+	for (const [index, parts] of source.entries()) {
+		const next = lines.find((one) => one.line > index);
+		for (const name of parts.labels) labels.push({ name, at: next?.at ?? end, is_data: next?.is_data ?? false, size: 0, line: index + 1 });
 	}
-	return { lines, labels, end: at };
+	for (const one of lines) {
+		const owner = labels.findLast((label) => label.line <= one.line && label.is_data && one.is_data);
+		if (owner && !/^\.align\b/.test(source[one.line - 1].rest)) owner.size += one.size;
+	}
+	return { lines, labels, end };
 }
 
-// What is wrong with a line, by the number of its fault.
-export const FAULTS = {
-	1: "The line isn't written as the language asks: a comma, an operand or a quote is missing or too many; a number is where a register has to be;"
-		+ " a directive is repeated, or .place is late.",
-	2: "An unknown name: there is no such instruction, directive, register, call or label.",
-	3: "Out of range: a number doesn't fit, a branch is too far, an instruction isn't at a multiple of 4 (write .align before it),"
-		+ " or .entry isn't in the content.",
-	4: "The label is written twice.",
-};
-// What `asm` refused, as { line, words }: the words quote the line.
+// What `listing` refused, as { line, words }: the words quote the line, and say what the command says of it.
 export function fault_of(said, text) {
-	const [, line, number] = /asm line (\d+) fault (\d+)/.exec(said) || [];
+	const [, line] = /asm line (\d+) fault/.exec(said) || [], told = said.trim().split("\n")[1] || said.trim();
 	if (line === undefined) return { line: 0, words: said.trim() };
-	if (line === "0") return { line: 0, words: "There is no instruction in the text, or it is too long." };
-	const quoted = instruction_of(text.split("\n")[line - 1] || ""), call = number === "2" && /^sys ([A-Za-z_]\w*)$/.exec(quoted)?.[1];
-	const why = call ? `There is no call named ${call}.` : FAULTS[number] || said.trim();
-	return { line: Number(line), words: `line ${line}${quoted ? `, “${quoted}”` : ""}: ${why}` };
+	const quoted = instruction_of(text.split("\n")[line - 1] || ""), why = told.replace(/^line \d+: /, "");
+	return { line: Number(line), words: line === "0" ? why : `line ${line}${quoted ? `, “${quoted}”` : ""}: ${why}` };
 }

@@ -25,7 +25,8 @@ async function image_of(program, i) {
 	if (program.bytes) return program.bytes;
 	const answer = await xinu(["asm", "source.s", "--out", "image.xim"], { files: { "source.s": program.text } });
 	if (answer.status === 0) return answer.files["image.xim"];
-	const fault = answer.trap ? { line: 0, words: stopped_words(answer) } : fault_of(answer.err, program.text);
+	const told = answer.trap ? answer : await xinu(["listing", "source.s"], { files: { "source.s": program.text } });
+	const fault = told.trap ? { line: 0, words: stopped_words(told) } : fault_of(told.err, program.text);
 	throw new Refused(`${program_name(program)}, ${fault.words}`, `program ${i}`, fault.line);
 }
 export async function images_of(work) {
@@ -74,7 +75,7 @@ export async function run_of(work) {
 	return {
 		schedule: work.schedule, images, files, args, regions, transcript, story, disks: answer.files,
 		names: work.programs.map(plain_name), texts: texts_of(work.sources),
-		sources: work.programs.map((program, i) => source_of(program, regions[i])),
+		sources: await Promise.all(work.programs.map(source_of)),
 		functions: images.flatMap(functions_of).sort((a, b) => a.at - b.at),
 		count: Number(/after (\d+) event/.exec(story)?.[1] ?? events.total), end: /^end (\w+)$/m.exec(transcript.slice(-20))?.[1] || "",
 		runs: events.runs, looks: new Map(), ms: performance.now() - start, is_stale: false,
@@ -82,10 +83,10 @@ export async function run_of(work) {
 }
 // Texts by their names, which a stranger may have chosen.
 export const texts_of = (sources) => Object.assign(Object.create(null), sources);
-function source_of(program, region) {
+async function source_of(program) {
 	if (program.bytes) return { rows: line_rows_of(program.bytes) };
-	const layout = layout_of(program.text);
-	return layout.end === region.to ? { layout, lines: program.text.split("\n") } : {};
+	const answer = await xinu(["listing", "source.s"], { files: { "source.s": program.text } });
+	return answer.status === 0 ? { layout: layout_of(program.text, utf8(answer.out)), lines: program.text.split("\n") } : {};
 }
 
 // The states of the stretch after the event `first`, up to LIMIT events, and what is read in them. A run of two million events is had a

@@ -27,6 +27,8 @@ export function assembled(text, ...more) {
 	if (answer.status) throw new Error(answer.err);
 	return answer.files.image;
 }
+// What `listing` prints of a text in assembler.
+export const listing_of = (text) => native(["listing", "source.s"], { "source.s": text }).out.toString();
 // The files and arguments of a run of programs in assembler.
 export function inputs_of({ programs, schedule }) {
 	const files = { "schedule.txt": schedule }, images = programs.map((program, i) => {

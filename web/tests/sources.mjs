@@ -9,7 +9,7 @@ import { cut_text, events_of, with_preemptions } from "../src/schedules.js";
 import { steps_of } from "../src/steps.js";
 import { CALLS } from "../src/words.js";
 import { TOP, compiled, has_compiler } from "./compiler.mjs";
-import { assembled, inputs_of, native } from "./native.mjs";
+import { assembled, inputs_of, listing_of, native } from "./native.mjs";
 import { counter, exercises } from "./page.mjs";
 
 const { check, end } = counter("sources");
@@ -25,7 +25,7 @@ function calls() {
 const SHORT = { li: ["lui", "addi"], la: ["lui", "addi"], mv: ["addi"], nop: ["addi"], j: ["jal"], ret: ["jalr"], sys: ["addi", "ecall"] };
 // Each step of each exercise is shown at a line that has its instruction.
 function assembler({ name, programs, schedule }) {
-	const sources = programs.map(({ text }) => ({ layout: layout_of(text), lines: text.split("\n") }));
+	const sources = programs.map(({ text }) => ({ layout: layout_of(text, listing_of(text)), lines: text.split("\n") }));
 	for (const [i, program] of programs.entries()) check(sources[i].layout.end === region_of(assembled(program.text)).to,
 		`${program.name} ends where its image does`);
 	const { files, args } = inputs_of({ programs, schedule }), listed = native(["explain", "--steps", "1..5000", ...args], files).out.toString();
