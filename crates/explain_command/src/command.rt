@@ -5,11 +5,12 @@ ghost use Rattle.run_inputs.specs.InputFaults.{have_fault};
 
 use crate::running::tell;
 use crate::traces::tell_mistake;
-use crate::words::{Listed, read_words};
+use crate::words::Listed;
+use command_words::Tool;
 use host_port::{Channel, Host};
-use refusal_words::tell_meaning;
+use refusal_words::tell_cause;
 use replayed_run::Replay;
-use run_inputs::{Inputs, Refusal, fetch_run};
+use run_inputs::{Cause, Inputs, Refusal, fetch_words, read_words};
 use std::alloc::Global;
 
 /// The words of the command.
@@ -19,40 +20,31 @@ const USAGE: &str =
 /// Tells the run that the arguments after the program's name ask for: sends the text on Out, and answers the exit status.
 ///
 /// The status is 0 if it was sent, and 10 if a text is compared that isn't a transcript. Else it is the status with which `run` refuses
-/// these arguments and files, and its text is sent on Fault, with a line after it that says it in words: 2 also for arguments that concern
-/// the output of a run, or events that can't be listed; 3 if the host failed; 7 if memory ran out.
+/// such arguments and files, and its text is sent on Fault, with a line after it that says it in words: 2 if the arguments aren't those of the
+/// command, 3 if the host failed, 7 if memory ran out.
 pub fn explain<H: Host>(alloc: Global, args: &[String], host: &mut H) -> u8 {
     match carry_out(alloc, args, host) {
         Ok(status) => status,
-        Err(refusal) => tell_meaning(alloc, refusal, USAGE, host),
+        Err(cause) => tell_cause(alloc, cause, USAGE, host),
     }
 }
 
 // Carries the command out.
-fn carry_out<H: Host>(alloc: Global, args: &[String], host: &mut H) -> Result<u8, Refusal> {
-    let mut run = Vec::new(alloc);
-    tell_run(alloc, args, &mut run, host)
-}
-
-// Carries the command out, with a list for the arguments of the run.
-fn tell_run<H: Host>(
+fn carry_out<'a, H: Host>(
     alloc: Global,
-    args: &[String],
-    run: &mut Vec<String>,
+    args: &'a [String],
     host: &mut H,
-) -> Result<u8, Refusal> {
-    let options = match read_words(alloc, args, run) {
-        Ok(Some(options)) => options,
-        Ok(None) => return Err(Refusal::Usage),
-        Err(_) => return Err(Refusal::NoMemory),
-    };
-    let inputs = fetch_run(alloc, run.as_slice(), host)?;
-    if let Some(name) = options.trace {
+) -> Result<u8, Cause<'a>> {
+    let words = read_words(alloc, Tool::Explain, args)?;
+    let inputs = fetch_words(alloc, &words, host)?;
+    if let Some(name) = words.value("trace") {
         return tell_mistake(alloc, inputs, name, host);
     }
-    let text = told(alloc, inputs, options.listed())?;
-    host.emit(Channel::Out, text.as_bytes())?;
-    Ok(0)
+    let text = told(alloc, inputs, Listed::of(&words))?;
+    match host.emit(Channel::Out, text.as_bytes()) {
+        Ok(()) => Ok(0),
+        Err(fault) => Err(Cause::Refused(Refusal::from(fault))),
+    }
 }
 
 // The text that tells the run of these inputs.

@@ -6,9 +6,9 @@ ghost use Rattle.given_disks.specs.Disks.{disks_of};
 ghost use Rattle.run_inputs.specs.InputFaults.{have_fault};
 
 use crate::listing::name_of;
-use host_port::{Channel, Host};
+use host_port::{Channel, Host, HostFault};
 use printed_runs::Text;
-use run_inputs::{Inputs, Refusal, images_of};
+use run_inputs::{Cause, Inputs, Refusal, images_of};
 use std::alloc::Global;
 use trace_places::{Mistake, Moment, NoStart, find_mistake};
 use transcript::render;
@@ -22,19 +22,23 @@ const MOST_SHOWN: usize = 60;
 /// Sends on Out `yes` if the file of this name is the transcript of a run of the inputs, else where it goes wrong. The status is 0 or 10.
 ///
 /// # Errors
-/// `TraceTooLong` if it has over 64 MiB; `Overlap` or `NoRoom` if the machine doesn't start; `HostFault` if the host failed; `NoMemory`.
-pub(crate) fn tell_mistake<H: Host>(
+/// `TraceTooLong` if it has over 64 MiB; `Overlap` or `NoRoom` if the machine doesn't start; the name of the file if it can't be read; `HostFault` if
+/// the host failed; `NoMemory`.
+pub(crate) fn tell_mistake<'a, H: Host>(
     alloc: Global,
     inputs: Inputs,
-    name: &str,
+    name: &'a str,
     host: &mut H,
-) -> Result<u8, Refusal>
+) -> Result<u8, Cause<'a>>
     requires few { length inputs.images.items ≤ 8 }
     requires good { have_fault (map (λ v. v.items) inputs.images.items) ≡ false }
     requires events { length inputs.schedule ≤ 1000000000 }
 {
-    let trace = host.fetch(alloc, name, LONGEST_TRACE)?;
-    compare(alloc, inputs, trace.as_slice(), host)
+    match host.fetch(alloc, name, LONGEST_TRACE) {
+        Ok(trace) => Ok(compare(alloc, inputs, trace.as_slice(), host)?),
+        Err(HostFault::Failed) => Err(Cause::Unread(name)),
+        Err(HostFault::NoMemory) => Err(Cause::Refused(Refusal::NoMemory)),
+    }
 }
 
 // The same of the trace in the file.
