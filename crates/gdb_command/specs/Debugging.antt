@@ -1,13 +1,17 @@
 -- What the debugger is served of the run that the arguments ask for.
 use Rattle.std.specs.Prelude.{◌≡◌, ℕ, true, List, Option, map, Ok}
-use Rattle.command_line.specs.Commands.{command_of}
+use Rattle.command_line.specs.Reading.{Taken}
+use Rattle.command_words.specs.Tools.{rows_of}
+use Rattle.command_words.specs.Words.{words_of}
+use Rattle.command_words.specs.declared.tools.Tool.TheVariants.{Gdb}
 use Rattle.gdb_answers.specs.Threads.{shown_process}
 use Rattle.gdb_command.specs.Reads.{HasServedStreams}
 use Rattle.gdb_command.specs.declared.session.Session.{Session}
 use Rattle.given_disks.specs.Disks.{disks_of}
 use Rattle.host_port.specs.Outside.{Outside}
 use Rattle.replayed_run.specs.Replayed.{HasInputs, Replayed}
-use Rattle.run_inputs.specs.Words.{ReadsRun, inputs_asked}
+use Rattle.run_inputs.specs.Reading.{ReadsInputs}
+use Rattle.run_inputs.specs.Words.{inputs_in}
 use Rattle.run_inputs.specs.declared.inputs.Inputs.{Inputs}
 
 -- It is the run of these inputs, before its first event.
@@ -16,11 +20,17 @@ pub record BeginsRun (x : Inputs) (r : Replayed) : Type 0 where
   pub none : r.taken ≡ 0
   pub known : r.known ≡ true
 
--- It is the run that the words of a command ask for: its inputs were fetched as they say.
-pub record IsAsked (words : List (List ℕ)) (old new : Outside) (r : Replayed) : Type 0 where
+-- It is the run that words name: its inputs were fetched and judged as they say.
+pub record IsNamed (words : Taken) (old new : Outside) (r : Replayed) : Type 0 where
   pub inputs : Inputs
-  pub fetched : ReadsRun (inputs_asked (command_of words)) (Ok inputs) old new
+  pub fetched : ReadsInputs (inputs_in words) (Ok inputs) old new
   pub begins : BeginsRun inputs r
+
+-- It is the run that the words of the command ask for, by the table of its options.
+pub record IsAsked (words : List (List ℕ)) (old new : Outside) (r : Replayed) : Type 0 where
+  pub taken : Taken
+  pub read : words_of (rows_of Gdb) words ≡ Ok taken
+  pub named : IsNamed taken old new r
 
 -- A session that began with the run served what a stream gave.
 pub record HasServedRun (r : Replayed) (input rest_of before after : Option (List ℕ)) : Type 0 where

@@ -19,6 +19,5 @@ mod output;
 mod serving;
 mod session;
 mod units;
-mod words;
 
 pub use command::debug;

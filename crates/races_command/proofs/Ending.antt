@@ -1,6 +1,7 @@
 -- How the search and the command end.
-use Rattle.std.proofs.Common.{◌≡◌, ◌∙◌, ℕ, ◌≤◌, ◌<◌, ◌+◌, true, false, List, [], length, map, length-append, Some, None, refl, sym, ap, subst, arith}
-use Rattle.std.specs.Prelude.{Result, Ok, Err, MatchResult}
+use Rattle.std.proofs.Common.{◌≡◌, ◌∙◌, ℕ, ◌≤◌, ◌<◌, ◌+◌, true, false, List, [], length, map, length-append, Option, Some, None, refl, sym, ap, subst, arith}
+use Rattle.std.specs.Prelude.{Result, Ok, Err, MatchResult, option_map}
+use denote.Ref.{Bor}
 use Rattle.std.specs.List.{sum}
 use Rattle.std.proofs.lemmas.List.{length-map}
 use Rattle.host_port.specs.Outside.{Outside, appended, counted}
@@ -16,11 +17,12 @@ use Rattle.preemptions.proofs.Fewness.{few_placements}
 use Rattle.race_tables.proofs.Tables.{adds_up}
 use Rattle.preemptions.proofs.Members.{all_placements}
 use Rattle.run_inputs.specs.Conversions.{boot_refusal}
+use Rattle.run_inputs.specs.declared.causes.Cause.TheVariants as why
 use Rattle.run_inputs.specs.declared.refusals.Refusal.TheVariants as refusal
 use Rattle.xinu_base.specs.declared.events.Event.{Event}
 use Rattle.xinu_model.specs.Boot.{Disks, Loaded}
 use Rattle.races_command.specs.Printed.{table_text}
-use Rattle.races_command.specs.Searching.{BreaksOff, IsBreak, Searched, Searches, SendsPart, StopsIn, ended_by, found_file, with_file}
+use Rattle.races_command.specs.Searching.{BreaksOff, IsBreak, Searched, Searches, SendsPart, StopsIn, ended_by, found_file, unwritten, with_file}
 use Rattle.races_command.specs.declared.faults.Fault.{Fault}
 use Rattle.races_command.specs.declared.faults.Fault.TheVariants as fault
 use Rattle.races_command.specs.Judged.{IsLongOrMemory}
@@ -57,7 +59,7 @@ breaks_at_once s h =
     }
 
 -- the images didn't boot
-pub boot_ends : (s : Searched) (f : BootFault) (h : Outside) → IsRefused s.disks s.images f → Searches s (Some (fault.Refused (boot_refusal f))) h h
+pub boot_ends : (s : Searched) (f : BootFault) (h : Outside) → IsRefused s.disks s.images f → Searches s (Some (fault.Refused (why.Refused (boot_refusal f)))) h h
 boot_ends s (boot.Overlap i) h is = (is, refl)
 boot_ends s (boot.NoRoom i) h is = (is, refl)
 boot_ends s boot.NoMemory h is = breaks_at_once s h
@@ -75,18 +77,21 @@ finds s table old mid new explores sent written = record {
 -- sending was broken off
 stops_so : (s : Searched) (table : List Row) (f : Fault) (old new : Outside) → Explores s.disks s.images s.base (placements s.most s.within) table
     → SendsPart (table_text true s.most s.within table) (found_file s.found s.outcome s.base table) old new → IsBreak f old.faults new.faults → Searches s (Some f) old new
-stops_so s table (fault.Refused refusal.NoMemory) old new explores sends cause = record { are_all = true; table = table; explores = explores; sends = sends }
-stops_so s table (fault.Refused refusal.HostFault) old new explores sends cause = (record { are_all = true; table = table; explores = explores; sends = sends }, cause)
-stops_so s table (fault.Refused refusal.Usage) old new explores sends cause = absurd cause
-stops_so s table (fault.Refused (refusal.Image i k)) old new explores sends cause = absurd cause
-stops_so s table (fault.Refused (refusal.Schedule l)) old new explores sends cause = absurd cause
-stops_so s table (fault.Refused (refusal.Disk d b r)) old new explores sends cause = absurd cause
-stops_so s table (fault.Refused (refusal.Overlap i)) old new explores sends cause = absurd cause
-stops_so s table (fault.Refused (refusal.NoRoom i)) old new explores sends cause = absurd cause
-stops_so s table (fault.Refused (refusal.Asm l k)) old new explores sends cause = absurd cause
-stops_so s table (fault.Refused refusal.TraceTooLong) old new explores sends cause = absurd cause
-stops_so s table (fault.Refused refusal.NoSuchFile) old new explores sends cause = absurd cause
-stops_so s table (fault.Refused refusal.DoesNotFit) old new explores sends cause = absurd cause
+stops_so s table (fault.Refused (why.Refused refusal.NoMemory)) old new explores sends cause = record { are_all = true; table = table; explores = explores; sends = sends }
+stops_so s table (fault.Refused (why.Refused refusal.HostFault)) old new explores sends cause = (record { are_all = true; table = table; explores = explores; sends = sends }, cause)
+stops_so s table (fault.Refused (why.Refused refusal.Usage)) old new explores sends cause = absurd cause
+stops_so s table (fault.Refused (why.Refused (refusal.Image i k))) old new explores sends cause = absurd cause
+stops_so s table (fault.Refused (why.Refused (refusal.Schedule l))) old new explores sends cause = absurd cause
+stops_so s table (fault.Refused (why.Refused (refusal.Disk d b r))) old new explores sends cause = absurd cause
+stops_so s table (fault.Refused (why.Refused (refusal.Overlap i))) old new explores sends cause = absurd cause
+stops_so s table (fault.Refused (why.Refused (refusal.NoRoom i))) old new explores sends cause = absurd cause
+stops_so s table (fault.Refused (why.Refused (refusal.Asm l k))) old new explores sends cause = absurd cause
+stops_so s table (fault.Refused (why.Refused refusal.TraceTooLong)) old new explores sends cause = absurd cause
+stops_so s table (fault.Refused (why.Refused refusal.NoSuchFile)) old new explores sends cause = absurd cause
+stops_so s table (fault.Refused (why.Refused refusal.DoesNotFit)) old new explores sends cause = absurd cause
+stops_so s table (fault.Refused (why.Words wrong)) old new explores sends cause = absurd cause
+stops_so s table (fault.Refused (why.Unread name)) old new explores sends cause = absurd cause
+stops_so s table (fault.Refused (why.Unwritten name)) old new explores sends cause = absurd cause
 stops_so s table fault.TooMany old new explores sends cause = absurd cause
 stops_so s table fault.TooLong old new explores sends cause = absurd cause
 stops_so s table fault.TooFar old new explores sends cause = absurd cause
@@ -100,18 +105,21 @@ table_stops s table one f old new explores same stops =
 
 -- the host failed later
 breaks_later : (f : Fault) (a b c : ℕ) → a ≤ b → IsBreak f b c → IsBreak f a c
-breaks_later (fault.Refused refusal.NoMemory) a b c le cause = cause
-breaks_later (fault.Refused refusal.HostFault) a b c le cause = omega (arith, le, cause)
-breaks_later (fault.Refused refusal.Usage) a b c le cause = cause
-breaks_later (fault.Refused (refusal.Image i k)) a b c le cause = cause
-breaks_later (fault.Refused (refusal.Schedule l)) a b c le cause = cause
-breaks_later (fault.Refused (refusal.Disk d k r)) a b c le cause = cause
-breaks_later (fault.Refused (refusal.Overlap i)) a b c le cause = cause
-breaks_later (fault.Refused (refusal.NoRoom i)) a b c le cause = cause
-breaks_later (fault.Refused (refusal.Asm l k)) a b c le cause = cause
-breaks_later (fault.Refused refusal.TraceTooLong) a b c le cause = cause
-breaks_later (fault.Refused refusal.NoSuchFile) a b c le cause = cause
-breaks_later (fault.Refused refusal.DoesNotFit) a b c le cause = cause
+breaks_later (fault.Refused (why.Refused refusal.NoMemory)) a b c le cause = cause
+breaks_later (fault.Refused (why.Refused refusal.HostFault)) a b c le cause = omega (arith, le, cause)
+breaks_later (fault.Refused (why.Refused refusal.Usage)) a b c le cause = cause
+breaks_later (fault.Refused (why.Refused (refusal.Image i k))) a b c le cause = cause
+breaks_later (fault.Refused (why.Refused (refusal.Schedule l))) a b c le cause = cause
+breaks_later (fault.Refused (why.Refused (refusal.Disk d k r))) a b c le cause = cause
+breaks_later (fault.Refused (why.Refused (refusal.Overlap i))) a b c le cause = cause
+breaks_later (fault.Refused (why.Refused (refusal.NoRoom i))) a b c le cause = cause
+breaks_later (fault.Refused (why.Refused (refusal.Asm l k))) a b c le cause = cause
+breaks_later (fault.Refused (why.Refused refusal.TraceTooLong)) a b c le cause = cause
+breaks_later (fault.Refused (why.Refused refusal.NoSuchFile)) a b c le cause = cause
+breaks_later (fault.Refused (why.Refused refusal.DoesNotFit)) a b c le cause = cause
+breaks_later (fault.Refused (why.Words wrong)) a b c le cause = cause
+breaks_later (fault.Refused (why.Unread name)) a b c le cause = cause
+breaks_later (fault.Refused (why.Unwritten name)) a b c le cause = cause
 breaks_later fault.TooMany a b c le cause = cause
 breaks_later fault.TooLong a b c le cause = cause
 breaks_later fault.TooFar a b c le cause = cause
@@ -162,3 +170,38 @@ long_ends a schedule s fault.TooLong h long = (long, refl)
 long_ends a schedule s fault.TooMany h is = subst (λ (f : Fault). Goes a schedule s (Some f) h h) (sym is) (breaks_at_once s h)
 long_ends a schedule s fault.TooFar h is = subst (λ (f : Fault). Goes a schedule s (Some f) h h) (sym is) (breaks_at_once s h)
 long_ends a schedule s (fault.Refused cause) h is = subst (λ (f : Fault). Goes a schedule s (Some f) h h) (sym is) (breaks_at_once s h)
+
+-- a file that couldn't be written is named
+pub unwritten_ends : (s : Searched) (found : Option (Bor (List ℕ))) (ended : Option Fault) (old new : Outside) → s.found ≡ option_map (λ n. n.now) found → Searches s ended old new
+    → Searches s (unwritten found ended) old new
+unwritten_ends s None None old new is searches = searches
+unwritten_ends s (Some name) None old new is searches = searches
+unwritten_ends s None (Some f) old new is searches = searches
+unwritten_ends s (Some name) (Some (fault.Refused (why.Refused refusal.HostFault))) old new is searches = (searches.0, searches.1, is)
+unwritten_ends s (Some name) (Some (fault.Refused (why.Words wrong))) old new is searches = searches
+unwritten_ends s (Some name) (Some (fault.Refused (why.Unread path))) old new is searches = searches
+unwritten_ends s (Some name) (Some (fault.Refused (why.Unwritten path))) old new is searches = searches
+unwritten_ends s (Some name) (Some (fault.Refused (why.Refused refusal.NoMemory))) old new is searches = searches
+unwritten_ends s (Some name) (Some (fault.Refused (why.Refused refusal.Usage))) old new is searches = searches
+unwritten_ends s (Some name) (Some (fault.Refused (why.Refused (refusal.Image i k)))) old new is searches = searches
+unwritten_ends s (Some name) (Some (fault.Refused (why.Refused (refusal.Schedule l)))) old new is searches = searches
+unwritten_ends s (Some name) (Some (fault.Refused (why.Refused (refusal.Disk d b r)))) old new is searches = searches
+unwritten_ends s (Some name) (Some (fault.Refused (why.Refused (refusal.Overlap i)))) old new is searches = searches
+unwritten_ends s (Some name) (Some (fault.Refused (why.Refused (refusal.NoRoom i)))) old new is searches = searches
+unwritten_ends s (Some name) (Some (fault.Refused (why.Refused (refusal.Asm l k)))) old new is searches = searches
+unwritten_ends s (Some name) (Some (fault.Refused (why.Refused refusal.TraceTooLong))) old new is searches = searches
+unwritten_ends s (Some name) (Some (fault.Refused (why.Refused refusal.NoSuchFile))) old new is searches = searches
+unwritten_ends s (Some name) (Some (fault.Refused (why.Refused refusal.DoesNotFit))) old new is searches = searches
+unwritten_ends s (Some name) (Some fault.TooMany) old new is searches = searches
+unwritten_ends s (Some name) (Some fault.TooLong) old new is searches = searches
+unwritten_ends s (Some name) (Some fault.TooFar) old new is searches = searches
+
+-- the table was sent; then the file was written, or that was broken off, and the file is named if it couldn't be written
+pub named_ends : {T : Type 0} (s : Searched) (table one two : List Row) (r : Result T Fault) (ended : Option Fault) (found : Option (Bor (List ℕ))) (old mid new : Outside)
+    → s.found ≡ option_map (λ n. n.now) found → ended ≡ unwritten found (ended_by r)
+    → Explores s.disks s.images s.base (placements s.most s.within) table → one ≡ table → two ≡ table
+    → mid ≡ counted (appended old Out (table_text true s.most s.within one)) mid.faults → old.faults ≤ mid.faults
+    → MatchResult r (λ _. new ≡ counted (with_file mid (found_file s.found s.outcome s.base two)) new.faults) (λ f. StopsIn [] (found_file s.found s.outcome s.base two) f mid new)
+    → Searches s ended old new
+named_ends s table one two r ended found old mid new named is explores first second sent later written =
+    subst (λ (e : Option Fault). Searches s e old new) (sym is) (unwritten_ends s found (ended_by r) old new named (file_ends s table one two r old mid new explores first second sent later written))

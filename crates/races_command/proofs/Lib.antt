@@ -1,6 +1,6 @@
 pub mod Ending
-pub mod EqualsSigns
 pub mod Listed
 pub mod PrintedParts
 pub mod PrintedRows
 pub mod Sending
+pub mod Carried

@@ -10,6 +10,7 @@ use Rattle.host_port.specs.declared.host.HostFault.TheVariants as host
 use Rattle.preemptions.specs.Preempted.{preempted_at}
 use Rattle.race_tables.specs.Rows.{Row}
 use Rattle.run_inputs.specs.Conversions.{host_refusal}
+use Rattle.run_inputs.specs.declared.causes.Cause.TheVariants as why
 use Rattle.schedule_text.specs.Written.{schedule_text}
 use Rattle.xinu_base.specs.declared.events.Event.{Event}
 use Rattle.races_command.specs.Searching.{MayWrite, SendsPart, StopsIn, WritesPart, found_file, row_numbered, with_file}
@@ -96,7 +97,7 @@ sends_before text file old mid new is later stops =
 
 -- the call that was refused
 pub stops : (text : List ℕ) (file : Option (List ℕ × List ℕ)) (old new : Outside) (f : HostFault) → SendsPart text file old new
-    → (f ≡ host.Failed → Rose old.faults new.faults) → StopsIn text file (fault.Refused (host_refusal f)) old new
+    → (f ≡ host.Failed → Rose old.faults new.faults) → StopsIn text file (fault.Refused (why.Refused (host_refusal f))) old new
 stops text file old new host.Failed part rose = record { sends = part; cause = rose refl }
 stops text file old new host.NoMemory part rose = record { sends = part; cause = tt }
 
@@ -165,15 +166,15 @@ found_is found name outcome base table row written named numbered is =
 
 -- a file that wasn't written whole, where a fault of the host is the cause
 file_broken : (file : List ℕ × List ℕ) (due : Option (List ℕ × List ℕ)) (f : HostFault) (e : Fault) (old new : Outside) → Some file ≡ due
-    → e ≡ fault.Refused (host_refusal f) → SendsPart [] (Some file) old new → (f ≡ host.Failed → Rose old.faults new.faults) → StopsIn [] due e old new
+    → e ≡ fault.Refused (why.Refused (host_refusal f)) → SendsPart [] (Some file) old new → (f ≡ host.Failed → Rose old.faults new.faults) → StopsIn [] due e old new
 file_broken file due f e old new same is part rose =
     subst (λ (x : Fault). StopsIn [] due x old new) (sym is)
-    (subst (λ (x : Option (List ℕ × List ℕ)). StopsIn [] x (fault.Refused (host_refusal f)) old new) same (stops [] (Some file) old new f part rose))
+    (subst (λ (x : Option (List ℕ × List ℕ)). StopsIn [] x (fault.Refused (why.Refused (host_refusal f))) old new) same (stops [] (Some file) old new f part rose))
 
 -- it couldn't be named
 pub name_stops : (found : Option (List ℕ)) (name : List ℕ) (outcome : ℕ) (base : List Event) (table : List Row) (row : Row) (written : List ℕ) (n : ℕ) (empty : Bool)
     (f : HostFault) (e : Fault) (old new : Outside) → found ≡ Some name → row_numbered outcome table ≡ Some row
-    → written ≡ schedule_text (preempted_at row.first base) → e ≡ fault.Refused (host_refusal f)
+    → written ≡ schedule_text (preempted_at row.first base) → e ≡ fault.Refused (why.Refused (host_refusal f))
     → new ≡ counted (with_calls (if empty then made_empty old Image else old) (take n (naming Image name ∷ []))) new.faults → old.faults ≤ new.faults
     → (f ≡ host.Failed → Rose old.faults new.faults) → StopsIn [] (found_file found outcome base table) e old new
 name_stops found name outcome base table row written n empty f e old new named numbered text is new_is later rose =
@@ -183,7 +184,7 @@ name_stops found name outcome base table row written n empty f e old new named n
 -- it was named, and a part of it written
 pub text_stops : (found : Option (List ℕ)) (name : List ℕ) (outcome : ℕ) (base : List Event) (table : List Row) (row : Row) (written : List ℕ) (n : ℕ)
     (f : HostFault) (e : Fault) (old mid new : Outside) → found ≡ Some name → row_numbered outcome table ≡ Some row
-    → written ≡ schedule_text (preempted_at row.first base) → e ≡ fault.Refused (host_refusal f)
+    → written ≡ schedule_text (preempted_at row.first base) → e ≡ fault.Refused (why.Refused (host_refusal f))
     → mid ≡ counted (with_calls (made_empty old Image) (naming Image name ∷ [])) mid.faults → new ≡ counted (appended mid Image (take n written)) new.faults
     → old.faults ≤ mid.faults → mid.faults ≤ new.faults → (f ≡ host.Failed → Rose mid.faults new.faults)
     → StopsIn [] (found_file found outcome base table) e old new

@@ -1,6 +1,5 @@
 pub mod Judged
 pub mod Printed
-pub mod Reading
 pub mod Searching
 pub mod Shown
 pub mod Stuck

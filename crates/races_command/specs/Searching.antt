@@ -9,6 +9,7 @@ use Rattle.preemptions.specs.Placements.{placements}
 use Rattle.preemptions.specs.Preempted.{preempted_at}
 use Rattle.race_runs.specs.Explored.{Explores, ExploresSome}
 use Rattle.race_tables.specs.Rows.{Row}
+use Rattle.run_inputs.specs.declared.causes.Cause.TheVariants as cause
 use Rattle.run_inputs.specs.declared.refusals.Refusal.TheVariants as refusal
 use Rattle.schedule_text.specs.Written.{schedule_text}
 use Rattle.xinu_base.specs.declared.events.Event.{Event}
@@ -16,6 +17,7 @@ use Rattle.xinu_model.specs.Boot.{Disks, Loaded, NoRoom, Overlaps, boot_on}
 use Rattle.races_command.specs.Printed.{table_text}
 use Rattle.races_command.specs.declared.faults.Fault.{Fault}
 use Rattle.races_command.specs.declared.faults.Fault.TheVariants as fault
+use denote.Ref.{Bor}
 
 -- What is searched: the images that boot on the disks, the base's events, at most how many quantum ends are put in and within how many steps,
 -- the file for the schedule of a row, if one is named, and the number of that row.
@@ -76,8 +78,8 @@ pub record SendsPart (text : List ℕ) (file : Option (Text × List ℕ)) (old n
 
 -- Sending is broken off if memory runs out, or if the host fails, but then only if the count of faults rose.
 abbrev pub IsBreak : Fault → ℕ → ℕ → Type 0
-IsBreak (fault.Refused refusal.NoMemory) before after = Unit {0}
-IsBreak (fault.Refused refusal.HostFault) before after = Rose before after
+IsBreak (fault.Refused (cause.Refused refusal.NoMemory)) before after = Unit {0}
+IsBreak (fault.Refused (cause.Refused refusal.HostFault)) before after = Rose before after
 IsBreak fault before after = ⊥
 
 -- Sending a text, and after it a file if there is one, was broken off.
@@ -97,16 +99,23 @@ pub record BreaksOff (s : Searched) (old new : Outside) : Type 0 where
   pub explores : IsTable are_all s table
   pub sends : SendsPart (table_text are_all s.most s.within table) (file_after are_all s table) old new
 
--- The search ended so. If the images don't boot, nothing was done; the host failed only if the count of faults rose.
+-- The search ended so. If the images don't boot, nothing was done; the host failed only if the count of faults rose, and a file that can't be written
+-- is the one for the schedule of a row.
 abbrev pub Searches : Searched → Option Fault → Outside → Outside → Type 0
 Searches s None old new = Finds s old new
-Searches s (Some (fault.Refused refusal.NoMemory)) old new = BreaksOff s old new
-Searches s (Some (fault.Refused refusal.HostFault)) old new = BreaksOff s old new × Rose old.faults new.faults
-Searches s (Some (fault.Refused (refusal.Overlap i))) old new = (boot_on s.disks s.images ≡ Overlaps i) × (new ≡ old)
-Searches s (Some (fault.Refused (refusal.NoRoom i))) old new = (boot_on s.disks s.images ≡ NoRoom i) × (new ≡ old)
+Searches s (Some (fault.Refused (cause.Refused refusal.NoMemory))) old new = BreaksOff s old new
+Searches s (Some (fault.Refused (cause.Refused refusal.HostFault))) old new = BreaksOff s old new × Rose old.faults new.faults
+Searches s (Some (fault.Refused (cause.Unwritten name))) old new = BreaksOff s old new × Rose old.faults new.faults × (s.found ≡ Some name.now)
+Searches s (Some (fault.Refused (cause.Refused (refusal.Overlap i)))) old new = (boot_on s.disks s.images ≡ Overlaps i) × (new ≡ old)
+Searches s (Some (fault.Refused (cause.Refused (refusal.NoRoom i)))) old new = (boot_on s.disks s.images ≡ NoRoom i) × (new ≡ old)
 Searches s (Some fault) old new = ⊥
 
 -- how a call ended
 abbrev pub ended_by : {T : Type 0} → Result T Fault → Option Fault
 ended_by (Ok x) = None
 ended_by (Err fault) = Some fault
+
+-- if the host failed while the file of this name was written, the file is named
+abbrev pub unwritten : Option (Bor (List ℕ)) → Option Fault → Option Fault
+unwritten (Some name) (Some (fault.Refused (cause.Refused refusal.HostFault))) = Some (fault.Refused (cause.Unwritten name))
+unwritten found ended = ended

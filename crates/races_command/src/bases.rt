@@ -43,7 +43,7 @@ impl Limits {
 ///
 /// # Errors
 /// `TooLong` if and only if it has more than 1000000; out of memory.
-pub fn events_of(alloc: Global, schedule: &mut Schedule) -> Result<Vec<Event>, Fault>
+pub fn events_of(alloc: Global, schedule: &mut Schedule) -> Result<Vec<Event>, Fault<'static>>
     ensures events { IfOk result (λ events. events.items ≡ schedule.old) }
     ensures few { IfOk result (λ events. length events.items ≤ 1000000) }
     ensures cause { IfErr result (spec.IsLongOrMemory schedule.old) }
@@ -65,7 +65,7 @@ pub fn events_of(alloc: Global, schedule: &mut Schedule) -> Result<Vec<Event>, F
 ///
 /// # Errors
 /// `TooMany` if and only if there are more than three quantum ends; else `TooFar` if and only if the base has fewer steps.
-pub fn judge(most: u64, within: u64, base: &[Event]) -> Result<Limits, Fault>
+pub fn judge(most: u64, within: u64, base: &[Event]) -> Result<Limits, Fault<'static>>
     requires few { length base.now ≤ 1000000 }
     ensures judged { spec.IsJudged most within (count_by is_step base.now) result }
 {

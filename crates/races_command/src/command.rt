@@ -6,28 +6,29 @@ ghost use Rattle.image_loader.specs.Images.{loaded_of};
 ghost use Rattle.given_disks.specs.Disks.{disks_of};
 ghost use Rattle.run_inputs.specs.InputFaults.{have_fault, images_loaded};
 ghost use Rattle.xinu_model.specs.Boot.{Loaded};
-ghost use Rattle.races_command.specs.Reading.{asked_of};
+ghost use Rattle.command_words.specs.ToolNames.{taken_words};
 ghost use Rattle.races_command.specs.Searching as search;
 ghost use Rattle.races_command.specs.Theorem as spec;
-ghost use Rattle.races_command.specs.Words.{asked};
+ghost use Rattle.races_command.specs.Words.{asked_in, read};
 
 use crate::bases::{Limits, events_of, judge};
-use crate::faults::{Fault, NO_MEMORY, tell};
+use crate::faults::{Fault, NO_MEMORY, or_unwritten, tell};
 use crate::reports::{send_table, write_found};
-use crate::words::{Words, words_of};
+use crate::words::{most_in, outcome_in, within_in};
+use command_words::{Taken, Tool};
 use host_port::Host;
 use image_loader::Image;
 use lfs_layout::{CleanImage, RawImage};
 use race_runs::{BootFault, Progress, explore};
-use run_inputs::{Inputs, Refusal, fetch_run, images_of};
+use run_inputs::{Cause, Inputs, Refusal, fetch_words, images_of, read_words};
 use std::alloc::Global;
 use xinu_base::Event;
 
 /// Goes through the placements that the arguments after the program's name ask for: sends the table on Out, writes the schedule of a row,
 /// the second if no other is asked for, if a file is named for it, and answers the exit status.
 ///
-/// The status is 0 if it was sent. Else it is the status with which `run` refuses these arguments and files, and its text is sent on Fault, with a
-/// line after it that says it in words: 2 also for numbers that don't fit; 3 if the host failed; 7 if memory ran out, after the table so far. The
+/// The status is 0 if it was sent. Else it is the status with which `run` refuses such arguments and files, and its text is sent on Fault, with
+/// lines after it that say it in words: 2 also for numbers that don't fit; 3 if the host failed; 7 if memory ran out, after the table so far. The
 /// progress is told how many placements there are, and of each that was gone through.
 pub fn races<H: Host, P: Progress>(
     alloc: Global,
@@ -44,48 +45,49 @@ pub fn races<H: Host, P: Progress>(
 }
 
 // Carries the command out.
-fn carry_out<H: Host, P: Progress>(
+fn carry_out<'a, H: Host, P: Progress>(
     alloc: Global,
-    args: &[String],
+    args: &'a [String],
     host: &mut H,
     progress: &mut P,
-) -> Result<(), Fault>
-    ensures carries { spec.Carries (asked (map string_bytes args.now)) (search.ended_by result) (H.view host.old) (H.view host.new) }
+) -> Result<(), Fault<'a>>
+    ensures carries { spec.Carries (read (map string_bytes args.entry.now)) (search.ended_by result) (H.view host.old) (H.view host.new) }
 {
-    match words_of(alloc, args) {
-        Ok(Some(words)) => obey(alloc, &words, host, progress),
-        Ok(None) => Err(Fault::Refused(Refusal::Usage)),
-        Err(_) => Err(NO_MEMORY),
+    match read_words(alloc, Tool::Races, args) {
+        Ok(words) => obey(alloc, &words, host, progress),
+        Err(cause) => Err(Fault::Refused(cause)),
     }
 }
 
-// Does what is asked.
-fn obey<H: Host, P: Progress>(
+// Does what the words ask.
+fn obey<'a, H: Host, P: Progress>(
     alloc: Global,
-    words: &Words,
+    words: &Taken<'a>,
     host: &mut H,
     progress: &mut P,
-) -> Result<(), Fault>
-    ensures obeys { spec.Obeys (asked_of words.now) (search.ended_by result) (H.view host.old) (H.view host.new) }
+) -> Result<(), Fault<'a>>
+    requires some { 1 ≤ length words.now.images.items }
+    requires few { length words.now.images.items ≤ 8 }
+    ensures obeys { spec.Obeys (asked_in (taken_words words.now)) (search.ended_by result) (H.view host.old) (H.view host.new) }
 {
-    match fetch_run(alloc, words.run.as_slice(), host) {
+    match fetch_words(alloc, words, host) {
         Ok(inputs) => go_through(alloc, inputs, words, host, progress),
         Err(cause) => Err(Fault::Refused(cause)),
     }
 }
 
 // Goes through the placements of these inputs.
-fn go_through<H: Host, P: Progress>(
+fn go_through<'a, H: Host, P: Progress>(
     alloc: Global,
     inputs: Inputs,
-    words: &Words,
+    words: &Taken<'a>,
     host: &mut H,
     progress: &mut P,
-) -> Result<(), Fault>
+) -> Result<(), Fault<'a>>
     requires some { 1 ≤ length inputs.images.items }
     requires few { length inputs.images.items ≤ 8 }
     requires good { have_fault (map (λ v. v.items) inputs.images.items) ≡ false }
-    ensures goes { (images : List Loaded) → images_loaded (map (λ v. v.items) inputs.images.items) ≡ Some images → spec.Goes (asked_of words.now) inputs.schedule (spec.search_of (asked_of words.now) inputs images) (search.ended_by result) (H.view host.old) (H.view host.new) }
+    ensures goes { (images : List Loaded) → images_loaded (map (λ v. v.items) inputs.images.items) ≡ Some images → spec.Goes (asked_in (taken_words words.now)) inputs.schedule (spec.search_of (asked_in (taken_words words.now)) inputs images) (search.ended_by result) (H.view host.old) (H.view host.new) }
 {
     let Inputs {
         schedule,
@@ -101,11 +103,10 @@ fn go_through<H: Host, P: Progress>(
         Ok(base) => base,
         Err(fault) => return Err(fault),
     };
-    let limits = match judge(words.most, words.within, base.as_slice()) {
+    let limits = match judge(most_in(words), within_in(words), base.as_slice()) {
         Ok(limits) => limits,
         Err(fault) => return Err(fault),
     };
-    let found = words.found.as_ref().map(|name| name.as_str());
     search(
         alloc,
         images.as_slice(),
@@ -113,26 +114,26 @@ fn go_through<H: Host, P: Progress>(
         &disk1,
         base.as_slice(),
         limits,
-        found,
-        words.outcome,
+        words.value("found"),
+        outcome_in(words),
         host,
         progress,
     )
 }
 
 // Goes through the placements of images that load, and sends what is found.
-fn search<H: Host, P: Progress>(
+fn search<'a, H: Host, P: Progress>(
     alloc: Global,
     images: &[Image<'_>],
     disk0: &RawImage,
     disk1: &CleanImage,
     base: &[Event],
     limits: Limits,
-    found: Option<&str>,
+    found: Option<&'a str>,
     outcome: u64,
     host: &mut H,
     progress: &mut P,
-) -> Result<(), Fault>
+) -> Result<(), Fault<'a>>
     requires some { 1 ≤ length images.now }
     requires few { length images.now ≤ 8 }
     requires base { length base.now ≤ 1000000 }
@@ -152,7 +153,7 @@ fn search<H: Host, P: Progress>(
                 Ok(()) => {}
                 Err(fault) => return Err(fault),
             }
-            write_found(
+            let written = write_found(
                 alloc,
                 table.as_slice(),
                 most,
@@ -161,13 +162,14 @@ fn search<H: Host, P: Progress>(
                 found,
                 outcome,
                 host,
-            )
+            );
+            or_unwritten(written, found)
         }
         Err(BootFault::NoMemory) => {
             progress.end();
             let _ = send_table(alloc, table.as_slice(), most, within, false, host);
             Err(NO_MEMORY)
         }
-        Err(fault) => Err(Fault::Refused(Refusal::from(fault))),
+        Err(fault) => Err(Fault::Refused(Cause::Refused(Refusal::from(fault)))),
     }
 }

@@ -15,7 +15,7 @@
 //!
 //! [`Progress`] is told how many placements there are and of each that was gone through; [`Silent`] says nothing.
 //!
-//! What the arguments ask is a definition (`asked` in `specs/Words.antt`), and so is the table as it is printed (`table_text` in
+//! What the arguments ask is a definition (`asked_in` in `specs/Words.antt`, of what was taken by the table of `command_words`), and so is the table as it is printed (`table_text` in
 //! `specs/Printed.antt`). `NoMemory` is free.
 #![tactic(auto)]
 

@@ -31,7 +31,7 @@ pub(crate) fn send_table<H: Host>(
     within: u32,
     are_all: bool,
     host: &mut H,
-) -> Result<(), Fault>
+) -> Result<(), Fault<'static>>
     requires fits { sum (map (λ row. row.count) table.now) < 18446744073709551616 }
     ensures sends { MatchResult result (λ _. H.view host.new ≡ counted (appended (H.view host.old) channel.Out (printed.table_text are_all most within table.now)) (H.view host.new).faults) (λ fault. spec.StopsIn (printed.table_text are_all most within table.now) None fault (H.view host.old) (H.view host.new)) }
     ensures later { (H.view host.old).faults ≤ (H.view host.new).faults }
@@ -58,7 +58,7 @@ pub(crate) fn write_found<H: Host>(
     found: Option<&str>,
     outcome: u64,
     host: &mut H,
-) -> Result<(), Fault>
+) -> Result<(), Fault<'static>>
     requires base { length base.now ≤ 1000000 }
     requires most { most ≤ 3 }
     requires placements { All (λ row. IsPlacement most within row.first) table.now }

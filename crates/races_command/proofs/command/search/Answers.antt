@@ -1,7 +1,7 @@
-use Rattle.std.proofs.Common.{◌<◌, List, map, subst, sym}
+use Rattle.std.proofs.Common.{◌<◌, List, map, refl, subst, sym}
 use Rattle.std.specs.List.{sum}
 use Rattle.race_tables.specs.Rows.{Row}
-use Rattle.races_command.proofs.Ending.{all_fit, file_ends, some_ends, some_fit, table_stops}
+use Rattle.races_command.proofs.Ending.{all_fit, named_ends, some_ends, some_fit, table_stops}
 use Rattle.races_command.proofs.command.search.Goals as goal
 
 pub send_table-requires : goal.send_table-requires
@@ -12,8 +12,8 @@ send_table-requires g c = record {
 
 pub returns-in-Ok : goal.returns-in-Ok
 returns-in-Ok g c = record {
-  searches = file_ends _ _ _ _ c.write_found.result _ _ _ c.in-Ok.ensures.explores c.as_slice.ensures.value c.as_slice-in-Ok.ensures.value
-      c.in-Ok-send_table.ensures.sends c.send_table.ensures.later c.write_found.ensures.writes;
+  searches = named_ends _ _ _ _ c.write_found-written.result _ c.args.found _ _ _ refl c.or_unwritten.ensures.named c.in-Ok.ensures.explores c.as_slice.ensures.value c.as_slice-in-Ok.ensures.value
+      c.in-Ok-send_table.ensures.sends c.send_table.ensures.later c.write_found-written.ensures.writes;
 }
 
 pub returns-in-Err-send_table : goal.returns-in-Err-send_table
