@@ -35,6 +35,7 @@ FILES = {
 BLOCKS = "14"
 # What the commands beside `run` say after that of a line of a schedule.
 IN_WORDS = "line 2 of the schedule isn't one of its forms, or asks for too many events; a comment has a line of its own\n"
+GDB_WORDS = "the words are --schedule FILE [--disk0 FILE] [--disk1 FILE] IMAGE ..\n"
 
 # the arguments, the exit status, standard error, and standard output if something is printed there
 ROWS = [
@@ -75,6 +76,9 @@ ROWS = [
     (["races", "--preemptions", "1", "--within", "1", "--schedule", "none", "image"], 5, "xinu: schedule line 2\n" + IN_WORDS),
     (["gdb", "--schedule", "none", "image"], 5, "xinu: schedule line 2\n" + IN_WORDS),
     (["explain", "--schedule", "four", "short"], 4, "xinu: image 1 fault 1\nimage 1: the file is shorter than a header\n"),
+    (["explain", "--schedule", "no file", "image"], 3, "xinu: host fault\nthe file no file can't be read: is its name right?\n"),
+    (["explain", "--schedule", "four", "--trace", "no file", "image"], 3, "xinu: host fault\nthe file no file can't be read: is its name right?\n"),
+    (["gdb", "--schedule", "four", "image", "--disk2", "large"], 2, "xinu: usage\nthere is no option --disk2\n" + GDB_WORDS),
     (["explained", "--schedule", "four", "short"], 2, "xinu: usage\n"),
 ]
 
