@@ -1,5 +1,5 @@
 -- The command by what was read of its words.
-use Rattle.std.proofs.Common.{◌≡◌, ◌⊎◌, inl, inr, refl, sym, subst}
+use Rattle.std.proofs.Common.{◌≡◌, inl, inr, refl, sym, subst}
 use Rattle.std.specs.Prelude.{Option, Some, Result, Ok, Err}
 use Rattle.command_line.specs.Reading.{Taken}
 use Rattle.command_words.specs.Words.{WordsFault}
