@@ -16,7 +16,7 @@ use Rattle.prove_command.specs.Proved.{IsProved}
 use Rattle.run_inputs.specs.Fetching.{FetchesFiles, IsOfHost}
 use Rattle.prove_command.specs.Named.{AreFetched}
 use Rattle.prove_command.specs.Theorem.{AreAnswered, AreRefused, AreUnbooted, Carries, Continues, IsImageFault, IsUnsent, Judges, Obeys, ProvesAsked, Sends, Tells}
-use Rattle.prove_command.specs.Words.{Asked, asked}
+use Rattle.proof_words.specs.Words.{Asked, asked}
 use Rattle.prove_command.specs.Named.{IsProvedOf}
 use Rattle.run_inputs.specs.Refusals.{status_of}
 

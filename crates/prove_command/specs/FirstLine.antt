@@ -3,7 +3,7 @@ use Rattle.std.specs.Prelude.{ℕ, ◌-◌, ◌^◌, ◌==◌, ◌&&◌, nat_lt,
 use Rattle.std.specs.Fmt.{decimal}
 use Rattle.std.specs.List.{flat_map}
 use Rattle.program_logic.specs.declared.values.Term.{Term}
-use Rattle.prove_command.specs.Words.{Asked}
+use Rattle.proof_words.specs.Words.{Asked}
 
 -- a word as a signed number
 unfoldable pub signed_text : ℕ → List ℕ

@@ -14,7 +14,7 @@ use Rattle.xinu_model.specs.Boot.{Boots, Loaded, NoRoom, Overlaps, boot}
 use Rattle.xinu_model.specs.Machine.{Xinu}
 use Rattle.prove_command.specs.FirstLine.{head_of}
 use Rattle.prove_command.specs.Named.{AreFetched, AreLoaded, IsProvedIn, IsProvedOf}
-use Rattle.prove_command.specs.Words.{Asked, asked}
+use Rattle.proof_words.specs.Words.{Asked, asked}
 
 -- ---- the images
 

@@ -4,9 +4,9 @@ ghost use Rattle.std.specs.Prelude.{◌≡◌, ◌≤◌, IfErr, IfOk, length, m
 ghost use Rattle.std.specs.String.{string_bytes};
 ghost use Rattle.image_loader.specs.Images.{loaded_of};
 ghost use Rattle.prove_command.specs.Proved.{IsProved};
-ghost use Rattle.prove_command.specs.Reading.{asked_of};
+ghost use Rattle.proof_words.specs.Reading.{asked_of};
 ghost use Rattle.prove_command.specs.Theorem as spec;
-ghost use Rattle.prove_command.specs.Words.{asked};
+ghost use Rattle.proof_words.specs.Words.{asked};
 ghost use Rattle.xinu_model.specs.Boot as model;
 ghost use Rattle.xinu_model.specs.Boot.{Boots};
 ghost use Rattle.xinu_model.specs.Machine.{Xinu};
@@ -16,11 +16,11 @@ use crate::fetching::{fetch_files, images_in};
 use crate::proving::{Answer, prove_images};
 use crate::sending::send;
 use crate::telling::{tell_fault, tell_proof, tell_unchecked};
-use crate::words::{Words, words_of};
 use host_port::Host;
 use image_loader::Image;
 use printed_runs::Text;
 use program_logic::Lock;
+use proof_words::{Words, words_of};
 use run_inputs::{Refusal, refuse};
 use std::alloc::Global;
 

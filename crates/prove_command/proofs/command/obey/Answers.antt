@@ -4,7 +4,7 @@ use Rattle.std.specs.String.{string_bytes}
 use Rattle.prove_command.proofs.Files.{as_many_files}
 use Rattle.prove_command.proofs.Judged.{obeys_fetched, obeys_unfetched}
 use Rattle.prove_command.specs.Named.{AreFetched}
-use Rattle.prove_command.specs.Reading.{asked_of}
+use Rattle.proof_words.specs.Reading.{asked_of}
 use Rattle.prove_command.specs.Theorem.{Judges}
 use Rattle.run_inputs.specs.Fetching.{FetchesFiles}
 use Rattle.prove_command.proofs.command.obey.Goals as goal

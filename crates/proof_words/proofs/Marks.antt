@@ -3,7 +3,7 @@ use Rattle.std.proofs.Common.{◌≡◌, ◌==◌, ◌<◌, ℕ, List, Option, S
 use Rattle.std.proofs.lemmas.Bool.Decides.{nat_tests}
 use Rattle.std.proofs.lemmas.Str.Pattern.{IsSplitOnceResult, split_once_first}
 use Rattle.std.specs.List.{position_or_len}
-use Rattle.prove_command.specs.Rules.{parts_at}
+use Rattle.proof_words.specs.Rules.{parts_at}
 use denote.Ref.{Bor}
 
 -- `split_once` gives the parts of the definition

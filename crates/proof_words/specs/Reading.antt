@@ -1,9 +1,9 @@
 -- The code's values of what was read and what is asked, as the definitions have them.
 use Rattle.std.specs.Prelude.{map}
 use Rattle.std.specs.String.{string_bytes}
-use Rattle.prove_command.specs.Words.{Asked, Read}
-use Rattle.prove_command.specs.declared.words.Reader.{Reader}
-use Rattle.prove_command.specs.declared.words.Words.{Words}
+use Rattle.proof_words.specs.Words.{Asked, Read}
+use Rattle.proof_words.specs.declared.words.Reader.{Reader}
+use Rattle.proof_words.specs.declared.words.Words.{Words}
 
 abbrev pub read_of : Reader → Read
 read_of r = record {

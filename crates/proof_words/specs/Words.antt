@@ -2,9 +2,9 @@
 use Rattle.std.specs.Prelude.{ℕ, ◌==◌, ◌||◌, Bool, true, false, nat_lt, if◌then◌else◌, List, [], ◌∷◌, ◌++◌, length, Option, Some, None, is_some, option_map, option_and_then, bytes_eq, codes, slice_index}
 use Rattle.program_logic.specs.declared.outline.Lock.{Lock}
 use Rattle.program_logic.specs.declared.values.Term.{Term}
-use Rattle.prove_command.specs.Rules.{parts_at, rule_in}
-use Rattle.prove_command.specs.declared.words.Choice.{Choice}
-use Rattle.prove_command.specs.declared.words.Choice.TheVariants as choice
+use Rattle.proof_words.specs.Rules.{parts_at, rule_in}
+use Rattle.proof_words.specs.declared.words.Choice.{Choice}
+use Rattle.proof_words.specs.declared.words.Choice.TheVariants as choice
 use Rattle.run_inputs.specs.Numbers.{number}
 
 -- What is asked: the lock with its word and its rule, and the names of the images.

@@ -2,7 +2,7 @@
 
 ghost use Rattle.std.specs.Prelude.{◌≡◌, ◌<◌, if◌then◌else◌, option_map};
 ghost use Rattle.program_logic.specs.Terms as terms;
-ghost use Rattle.prove_command.specs.Rules as rules;
+ghost use Rattle.proof_words.specs.Rules as rules;
 ghost use Rattle.run_inputs.specs.Numbers as numbers;
 
 use program_logic::Term;

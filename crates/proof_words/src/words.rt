@@ -2,8 +2,8 @@
 
 ghost use Rattle.std.specs.Prelude.{◌≡◌, ◌==◌, ◌≤◌, ◌++◌, ◌∷◌, [], if◌then◌else◌, is_some, length, map, option_map, slice_index, IfOk, IfSome, None, Some};
 ghost use Rattle.std.specs.String.{string_bytes};
-ghost use Rattle.prove_command.specs.Reading.{asked_of, read_of};
-ghost use Rattle.prove_command.specs.Words as spec;
+ghost use Rattle.proof_words.specs.Reading.{asked_of, read_of};
+ghost use Rattle.proof_words.specs.Words as spec;
 
 use crate::rule::{parts_at, rule_in, small_number};
 use program_logic::{Lock, Term};
@@ -18,9 +18,11 @@ const LAST_WORD: u64 = 1_048_572;
 
 /// What the arguments ask: the lock, and the names of the images.
 #[derive(Drop)]
-pub(crate) struct Words {
-    pub(crate) lock: Lock,
-    pub(crate) images: Vec<String>,
+pub struct Words {
+    /// The lock, with its word and its rule.
+    pub lock: Lock,
+    /// The names of the images.
+    pub images: Vec<String>,
 }
 
 /// An option of the command.
@@ -53,7 +55,7 @@ pub(crate) struct Reader {
 /// # Errors
 /// Out of memory.
 #[tactic(auto, unfolding(crate::specs::Words::asked))]
-pub(crate) fn words_of(alloc: Global, args: &[String]) -> Result<Option<Words>, AllocError>
+pub fn words_of(alloc: Global, args: &[String]) -> Result<Option<Words>, AllocError>
     ensures asked { IfOk result (λ words. option_map asked_of words ≡ spec.asked (map string_bytes args.now)) }
     ensures few { IfOk result (λ words. IfSome words (λ w. length w.images.items ≤ 8)) }
 {
