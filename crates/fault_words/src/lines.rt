@@ -25,11 +25,7 @@ use text_lines::first_line;
 ///
 /// # Errors
 /// Out of memory.
-pub fn cause_of<'a>(
-    alloc: Global,
-    fault: AsmFault,
-    text: &'a [u8],
-) -> Result<Cause<'a>, AllocError>
+pub fn cause_of<'a>(alloc: Global, fault: AsmFault, text: &'a [u8]) -> Result<Cause<'a>, AllocError>
     requires { length text.now ≤ 4294967294 }
     ensures cause { IfOk result (λ cause. seen_cause cause ≡ spec.cause_of_fault fault text.now) }
 {

@@ -113,7 +113,12 @@ fn astray_cause<'a>(all: &Layout<'_>, statement: &Statement<'a>, at: u64) -> Cau
     ensures cause { seen_cause result ≡ spec.astray_cause (found all.now.labels) at (seen_statement statement.now) }
 {
     match statement {
-        Statement::Branch { label, .. } => Cause::Far(*label, at, address(&all.labels, label), 4096),
+        Statement::Branch { label, .. } => Cause::Far(
+            *label,
+            at,
+            address(&all.labels, label),
+            4096,
+        ),
         Statement::JumpTo { label, .. } => {
             Cause::Far(*label, at, address(&all.labels, label), 1_048_576)
         }

@@ -58,13 +58,17 @@ fn push_cause(line: &mut Vec<u8>, cause: Cause<'_>) -> Result<(), AllocError>
     ensures cause { OnOk result (line.new.items ≡ line.old.items ++ spec.cause_text (seen_cause cause.entry)) }
 {
     match cause {
-        Cause::NoContent => push_text(line, "there is too little content: without .entry the process begins at its first word"),
-        Cause::NoForm => push_text(line, "that is no instruction or directive with operands between commas"),
+        Cause::NoContent => push_text(
+            line,
+            "there is too little content: without .entry the process begins at its first word",
+        ),
+        Cause::NoForm => push_text(
+            line,
+            "that is no instruction or directive with operands between commas",
+        ),
         Cause::Takes(word, meaning) => push_slots(line, word, slots_of(meaning)),
         Cause::Repeated(word) => push_around(line, "", word, " is there twice"),
-        Cause::Late => {
-            push_text(line, ".place comes before labels, instructions and content")
-        }
+        Cause::Late => { push_text(line, ".place comes before labels, instructions and content") }
         Cause::LabelTwice(label, first) => push_label_twice(line, label, first),
         Cause::NoWord(word) => push_around(
             line,
@@ -78,7 +82,10 @@ fn push_cause(line: &mut Vec<u8>, cause: Cause<'_>) -> Result<(), AllocError>
         Cause::NameForNumber(name) => {
             push_around(line, "", name, " is a name where a number has to be")
         }
-        Cause::NameForOffset => push_text(line, "a name is where the number before the parentheses has to be"),
+        Cause::NameForOffset => push_text(
+            line,
+            "a name is where the number before the parentheses has to be",
+        ),
         Cause::Exceeds(number, low, high) => push_limits(line, number, low, high),
         Cause::NoPlace(number) => push_no_place(line, number),
         Cause::Misaligned(at) => push_misaligned(line, at),
@@ -94,12 +101,7 @@ fn push_cause(line: &mut Vec<u8>, cause: Cause<'_>) -> Result<(), AllocError>
 }
 
 // Appends a word in a sentence.
-fn push_around(
-    line: &mut Vec<u8>,
-    before: &str,
-    word: &[u8],
-    after: &str,
-) -> Result<(), AllocError>
+fn push_around(line: &mut Vec<u8>, before: &str, word: &[u8], after: &str) -> Result<(), AllocError>
     ensures around { OnOk result (line.new.items ≡ line.old.items ++ spec.around before.now word.now after.now) }
 {
     line.extend_from_slice(before.as_bytes())?;
@@ -254,7 +256,10 @@ fn push_no_place(line: &mut Vec<u8>, number: i64) -> Result<(), AllocError>
     ensures place { OnOk result (line.new.items ≡ line.old.items ++ spec.place_text number) }
 {
     push_read(line, number)?;
-    push_text(line, " is no place: it is a multiple of 4 from 0 to 1048576")
+    push_text(
+        line,
+        " is no place: it is a multiple of 4 from 0 to 1048576",
+    )
 }
 
 // Appends where an instruction is that isn't at a multiple of 4.
