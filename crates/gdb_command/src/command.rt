@@ -56,11 +56,7 @@ fn carry_out<'a, H: Host, R: Read, W: Write>(
 }
 
 // The run that the arguments of the command ask for, before its first event.
-fn asked<'a, H: Host>(
-    alloc: Global,
-    args: &'a [String],
-    host: &mut H,
-) -> Result<Replay, Cause<'a>>
+fn asked<'a, H: Host>(alloc: Global, args: &'a [String], host: &mut H) -> Result<Replay, Cause<'a>>
     ensures asked { IfOk result (λ r. IsAsked (map string_bytes args.entry.now) (H.view host.old) (H.view host.new) r) }
 {
     let words = read_words(alloc, Tool::Gdb, args)?;
