@@ -7,7 +7,7 @@
 //! |---|---|
 //! | [`list_answers`] | `answered`: the answers are those of the three lists (`answers_of` in `specs/Answers.antt`); `ranges`: `NO_ROOM` if and only if there isn't an answer for each call; `stays`: then nothing is written, nor if memory runs out |
 //!
-//! The archive needs `rattle_alloc` and `rattle_dealloc`, which the toolchain's C library has.
+//! The archive needs `rattle_alloc`, `rattle_realloc` and `rattle_dealloc`, which the toolchain's C library has.
 #![tactic(auto)]
 
 ghost use Rattle.std.specs.Prelude.{◌≡◌, ◌==◌, ◌⊎◌, not, length};
