@@ -49,14 +49,11 @@ function holder_of(svg) {
 }
 export const save_picture = () => page.picture && save("run.svg", page.picture);
 
-// The columns of a picture as { event, x, strip, top }: their numbers stand above each strip.
+// The columns of a picture as { event, x, strip, top }, by the events of their heads.
 function columns(svg) {
-	return [...svg.querySelectorAll("g.a")].flatMap((labels) => {
-		const strip = labels.parentNode, top = Number(/translate\(0 (\d+)\)/.exec(strip.getAttribute("transform"))?.[1] || 0);
-		const event_of = (label) => (label.textContent === "start" ? 0 : parseInt(label.textContent, 10));
-		return [...labels.querySelectorAll("text")]
-			.map((label) => ({ event: event_of(label), x: Number(label.getAttribute("x")) - 3, strip, top }))
-			.filter((column) => Number.isFinite(column.event));
+	return [...svg.querySelectorAll("text[data-event]")].map((head) => {
+		const strip = head.parentNode.parentNode, top = Number(/translate\(0 (\d+)\)/.exec(strip.getAttribute("transform"))?.[1] || 0);
+		return { event: Number(head.dataset.event), x: Number(head.getAttribute("x")) - 3, strip, top };
 	});
 }
 // Shows where the stepper stands.
@@ -72,10 +69,10 @@ export function mark_picture() {
 	column.strip.append(line);
 	line.scrollIntoView({ block: "nearest" });
 }
-// The event of a mark that was clicked, by its title; else that of the last column that begins left of the click, in its strip.
+// The event of a mark that was clicked; else that of the last column that begins left of the click, in its strip.
 function event_of_click(svg, click) {
-	const titled = /^event (\d+)/.exec(click.target.closest("g")?.querySelector(":scope > title")?.textContent || "");
-	if (titled && !BANDS.some((one) => click.target.classList.contains(one))) return Number(titled[1]);
+	const group = click.target.closest("g[data-event]");
+	if (group && !BANDS.some((one) => click.target.classList.contains(one))) return Number(group.dataset.event);
 	const point = new DOMPoint(click.clientX, click.clientY).matrixTransform(svg.getScreenCTM().inverse());
 	let best = null, top = -1;
 	for (const column of columns(svg)) {

@@ -7,6 +7,8 @@ use std::alloc::Global;
 /// An event that is drawn, or several that only moved bytes of the console, or the start or the end of the picture.
 #[derive(Drop)]
 pub(crate) struct Column {
+    /// The number of its first event, 0 at the start of the run, if it has one.
+    pub(crate) event: Option<u64>,
     /// What stands above it.
     pub(crate) head: Text,
     /// What its title begins with.
@@ -25,6 +27,7 @@ impl Column {
     /// A column of these lines.
     pub(crate) fn new(alloc: Global, lines: &str) -> Column {
         Column {
+            event: None,
             head: Text::new(alloc),
             title: Text::new(alloc),
             gap: Text::new(alloc),
@@ -34,14 +37,21 @@ impl Column {
         }
     }
 
-    /// Makes this its head, which is also what its title begins with.
-    pub(crate) fn name(&mut self, head: &str) {
+    /// Makes it the column of the start of the run.
+    pub(crate) fn start(&mut self) {
+        self.event = Some(0);
+        self.name("start");
+    }
+
+    // Makes this its head, which is also what its title begins with.
+    fn name(&mut self, head: &str) {
         self.head.put(head);
         self.title.put(head);
     }
 
     /// Makes it the column of the event of this number.
     pub(crate) fn number(&mut self, number: u64) {
+        self.event = Some(number);
         self.head.number(number);
         self.title.numbered("event ", number);
     }

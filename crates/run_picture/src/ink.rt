@@ -22,9 +22,22 @@ pub(crate) fn content(ink: &mut Text, text: &str) {
     }
 }
 
+/// Writes the number of an event as an attribute of an element that has begun, if there is one.
+pub(crate) fn event_of(ink: &mut Text, event: Option<u64>) {
+    if let Some(number) = event {
+        ink.numbered(" data-event=\"", number);
+        ink.put("\"");
+    }
+}
+
 /// Begins an element of words at a place, in a class; in none if its name is empty.
 pub(crate) fn begin_words(ink: &mut Text, class: &str, x: u32, y: u32) {
     ink.put("<text");
+    place_words(ink, class, x, y);
+}
+
+/// Goes on with an element of words, at a place and in a class.
+pub(crate) fn place_words(ink: &mut Text, class: &str, x: u32, y: u32) {
     if !class.is_empty() {
         ink.put(" class=\"");
         ink.put(class);

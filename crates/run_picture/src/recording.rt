@@ -117,7 +117,7 @@ impl Recording {
     pub fn begin(&mut self, number: u64, lines: &str, tables: &str) {
         let mut column = Column::new(self.alloc, lines);
         if number == 0 {
-            column.name("start");
+            column.start();
         } else {
             column.number(number);
         }

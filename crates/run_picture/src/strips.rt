@@ -3,7 +3,8 @@
 use crate::bands::Band;
 use crate::frame::{BAND, BAND_HEIGHT, DEVICE, Frame, HEADS, PROCESS};
 use crate::ink::{
-    END, arrow, at, bar, begin_words, content, outline, path, title, width_of, words,
+    END, arrow, at, bar, begin_words, content, event_of, outline, path, place_words, title,
+    width_of, words,
 };
 use crate::labels::{Label, Lane, Link, Mark};
 use crate::layout::{AFTER_MARK, LEFT, MARGIN, WORD};
@@ -81,13 +82,11 @@ fn draw_heads(ink: &mut Text, frame: &Frame<'_>) {
             at(&mut lines, " ", HEADS);
             at(&mut lines, "V", bottom);
             let class = if column.is_alarm { "z" } else { "" };
-            words(
-                ink,
-                class,
-                place.x.saturating_add(3),
-                12,
-                column.head.as_str(),
-            );
+            ink.put("<text");
+            event_of(ink, column.event);
+            place_words(ink, class, place.x.saturating_add(3), 12);
+            content(ink, column.head.as_str());
+            ink.put(END);
         }
     }
     ink.put("</g>\n");
@@ -179,7 +178,9 @@ fn draw_column(ink: &mut Text, k: usize, frame: &Frame<'_>) {
         return;
     };
     let x = frame.x_of(k);
-    ink.put("<g>");
+    ink.put("<g");
+    event_of(ink, column.event);
+    ink.put(">");
     title(ink, column.title.as_str(), column.lines.as_str());
     for band in frame.bands {
         if band.from == k {

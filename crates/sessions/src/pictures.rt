@@ -39,8 +39,8 @@ pub(crate) fn events_of(alloc: Global, picture: &str) -> Result<String, AllocErr
 impl<'a> Reader<'a> {
     // Reads a line of the picture.
     fn read(&mut self, line: &'a str) -> Result<(), AllocError> {
-        if let Some(title) = line.strip_prefix("<g><title>") {
-            self.event = before(title, "</title>");
+        if let Some(title) = title_of(line) {
+            self.event = title;
         } else if line.starts_with("<g transform") {
             self.event = "";
             self.rows.clear();
@@ -71,6 +71,16 @@ impl<'a> Reader<'a> {
             .push_str(name_at(self.rows.as_slice(), y_of(line)))?;
         self.events.push_str(" ")?;
         self.events.push_str(content(line))
+    }
+}
+
+// The title of the column that a line begins.
+fn title_of(line: &str) -> Option<&str> {
+    let (group, rest) = line.split_once("><title>")?;
+    if group == "<g" || group.starts_with("<g data-event=") {
+        Some(before(rest, "</title>"))
+    } else {
+        None
     }
 }
 
