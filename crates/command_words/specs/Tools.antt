@@ -30,9 +30,10 @@ row name kind need = record { name = name; kind = kind; need = need }
 abbrev pub input_rows : List ValueRow
 input_rows = row (codes "schedule") File Needed ∷ row (codes "disk0") File Optional ∷ row (codes "disk1") File Optional ∷ []
 
--- `explain [--steps A..B | --trace FILE] --schedule FILE [--disk0 FILE] [--disk1 FILE] IMAGE ..`
+-- `explain [--steps A..B | --trace FILE | --at N] --schedule FILE [--disk0 FILE] [--disk1 FILE] IMAGE ..`
 abbrev pub explain_rows : List ValueRow
-explain_rows = row (codes "steps") (Span 1000000000 10000) (Without (codes "trace")) ∷ row (codes "trace") File Optional ∷ input_rows
+explain_rows = row (codes "steps") (Span 1000000000 10000) (Without (codes "trace")) ∷ row (codes "trace") File (Without (codes "at"))
+    ∷ row (codes "at") (Number 1 1000000000) (Without (codes "steps")) ∷ input_rows
 
 -- `timeline [--from EVENT] [--events N] [--title TEXT] --schedule FILE [--disk0 FILE] [--disk1 FILE] IMAGE ..`
 abbrev pub timeline_rows : List ValueRow

@@ -75,7 +75,15 @@ const EXPLAIN: &[ValueRow] = &[
         },
         Need::Without("trace")
     ),
-    row!("trace", Kind::File, Need::Optional),
+    row!("trace", Kind::File, Need::Without("at")),
+    row!(
+        "at",
+        Kind::Number {
+            least: 1,
+            most: MOST_EVENTS
+        },
+        Need::Without("steps")
+    ),
     SCHEDULE,
     DISK0,
     DISK1,

@@ -3,10 +3,10 @@
 ghost use Rattle.std.specs.Prelude.{◌≡◌, ◌≤◌, false, length, map};
 ghost use Rattle.run_inputs.specs.InputFaults.{have_fault};
 
-use crate::running::tell;
+use crate::running::{tell, tell_at};
 use crate::traces::tell_mistake;
-use crate::words::Listed;
-use command_words::Tool;
+use crate::words::{Listed, told_at};
+use command_words::{Taken, Tool};
 use host_port::{Channel, Host};
 use refusal_words::tell_cause;
 use replayed_run::Replay;
@@ -15,7 +15,7 @@ use std::alloc::Global;
 
 /// The words of the command.
 const USAGE: &str =
-    "[--steps A..B | --trace FILE] --schedule FILE [--disk0 FILE] [--disk1 FILE] IMAGE ..";
+    "[--steps A..B | --trace FILE | --at N] --schedule FILE [--disk0 FILE] [--disk1 FILE] IMAGE ..";
 
 /// Tells the run that the arguments after the program's name ask for: sends the text on Out, and answers the exit status.
 ///
@@ -40,7 +40,7 @@ fn carry_out<'a, H: Host>(
     if let Some(name) = words.value("trace") {
         return tell_mistake(alloc, inputs, name, host);
     }
-    let text = told(alloc, inputs, Listed::of(&words))?;
+    let text = told(alloc, inputs, &words)?;
     match host.emit(Channel::Out, text.as_bytes()) {
         Ok(()) => Ok(0),
         Err(fault) => Err(Cause::Refused(Refusal::from(fault))),
@@ -48,14 +48,18 @@ fn carry_out<'a, H: Host>(
 }
 
 // The text that tells the run of these inputs.
-fn told(alloc: Global, inputs: Inputs, listed: Listed) -> Result<String, Refusal>
+fn told(alloc: Global, inputs: Inputs, words: &Taken<'_>) -> Result<String, Refusal>
     requires some { 1 ≤ length inputs.images.items }
     requires few { length inputs.images.items ≤ 8 }
     requires good { have_fault (map (λ v. v.items) inputs.images.items) ≡ false }
     requires events { length inputs.schedule ≤ 1000000000 }
 {
     let mut replay = Replay::new(alloc, inputs)?;
-    match tell(alloc, &mut replay, listed) {
+    let text = match told_at(words) {
+        Some(events) => tell_at(alloc, &mut replay, events),
+        None => tell(alloc, &mut replay, Listed::of(words)),
+    };
+    match text {
         Ok(text) => Ok(text),
         Err(fault) => Err(Refusal::from(fault)),
     }

@@ -1,7 +1,7 @@
 //! The command `explain`: a run is told in plain English.
 //!
 //! The arguments are those of `run` without what concerns its output, and `--steps A..B`, the events that are listed, or `--trace FILE`, a
-//! text that is compared in place of the story. What `run` refuses is refused with the same status and text, and another line says it in
+//! text that is compared in place of the story, or `--at N`, after how many events the state is told in place of it. What `run` refuses is refused with the same status and text, and another line says it in
 //! words. Else the run is taken through its events, and the text says how it ended, which traps there were and where,
 //! which processes are left and what they wait for, and what the console showed.
 //!
@@ -24,6 +24,7 @@ mod places;
 mod reasons;
 mod running;
 mod sights;
+mod states;
 mod steps;
 mod telling;
 mod traces;

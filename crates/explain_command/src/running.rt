@@ -1,13 +1,14 @@
 //! The run that is told: its events are taken, and what comes of each is told.
 
 ghost use Rattle.std.specs.Prelude.{◌≡◌, ◌<◌, false, IfOk};
-ghost use Rattle.replayed_run.specs.Replayed.{HasInputs, is_at_end};
+ghost use Rattle.replayed_run.specs.Replayed.{HasInputs, IsReplayed, is_at_end};
 ghost use Rattle.xinu_model.specs.Text.{tables_of, text};
 
 use crate::happenings::happen;
+use crate::states::StateSeen;
 use crate::telling::Telling;
 use crate::unsent::tell_unsent;
-use crate::words::Listed;
+use crate::words::{Listed, NONE};
 use host_port::HostFault;
 use machine::Go;
 use replayed_run::{Printed, Replay};
@@ -26,6 +27,48 @@ pub(crate) fn tell(
 ) -> Result<String, HostFault> {
     let mut telling = Telling::new(alloc, listed);
     tell_run(replay, &mut telling)
+}
+
+/// The text that tells the state after so many events, or after all if the run ends earlier.
+///
+/// # Errors
+/// Out of memory.
+pub(crate) fn tell_at(
+    alloc: Global,
+    replay: &mut Replay,
+    events: u32,
+) -> Result<String, HostFault> {
+    let mut telling = Telling::new(alloc, NONE);
+    telling.story.begin(tables(replay)?.lines());
+    take_until(replay, &mut telling, events)?;
+    let state = state_seen(replay)?;
+    Ok(telling.state_text(replay, &state)?)
+}
+
+// Takes the next events until so many were taken, or the run ends.
+#[inline(never)]
+fn take_until(replay: &mut Replay, telling: &mut Telling, events: u32) -> Result<(), HostFault> {
+    while let Some(event) = replay.next() {
+        if replay.taken() >= events {
+            return Ok(());
+        }
+        take_event(replay, event, telling)?;
+    }
+    Ok(())
+}
+
+// The state after the events that were taken, as it is told.
+fn state_seen(replay: &Replay) -> Result<StateSeen, HostFault>
+    ensures taken { IfOk result (λ seen. seen.taken ≡ replay.now.taken) }
+    ensures tables { IfOk result (λ seen. seen.printed ≡ text (tables_of replay.now.state)) }
+    ensures runs { IsReplayed replay.now }
+{
+    replay.runs();
+    let printed = tables(replay)?;
+    Ok(StateSeen {
+        taken: replay.taken(),
+        printed,
+    })
 }
 
 // The same, with nothing told so far.

@@ -8,6 +8,7 @@ use crate::listing::{add_changes, name_of};
 use crate::places::shown;
 use crate::reasons::add_reason;
 use crate::sights::Sight;
+use crate::states::{StateSeen, add_lists, add_process, add_stack, add_tick};
 use crate::steps::{add_step, call_line};
 use crate::traps::{add_trap, add_trap_place};
 use crate::whereabouts::add_whereabouts;
@@ -91,6 +92,33 @@ impl Telling {
         self.story.tell_end(&mut text, end);
         self.add_left(&mut text, replay);
         self.story.tell_rest(&mut text);
+        text.whole()
+    }
+
+    /// The state after some events: of each process what it does, and where it is, and the lists.
+    ///
+    /// # Errors
+    /// Out of memory, also if it ran out before.
+    pub(crate) fn state_text(
+        &self,
+        replay: &Replay,
+        state: &StateSeen,
+    ) -> Result<String, AllocError> {
+        let mut text = Text::new(self.alloc);
+        let lines = state.printed.lines();
+        text.numbered("After ", state.taken as u64);
+        text.put(" events");
+        add_tick(&mut text, lines);
+        for number in 1..PROCESSES {
+            if self.story.is_left(number) {
+                self.story.tell_left(&mut text, number);
+                let process = Pid::at(number);
+                add_whereabouts(&mut text, replay, process);
+                add_process(&mut text, lines, number);
+                add_stack(&mut text, replay.state(), process);
+            }
+        }
+        add_lists(&mut text, &self.story, lines);
         text.whole()
     }
 

@@ -1,4 +1,4 @@
-//! Which events of a run are listed.
+//! What is told of a run: which events are listed, or after how many of them the state.
 
 use command_words::Taken;
 
@@ -9,12 +9,20 @@ pub(crate) struct Listed {
     pub(crate) last: u64,
 }
 
+/// No event is listed.
+pub(crate) const NONE: Listed = Listed { first: 1, last: 0 };
+
+/// After how many events the state is told, if the words of the command ask for that.
+pub(crate) fn told_at(words: &Taken<'_>) -> Option<u32> {
+    u32::try_from(words.number("at")?).ok()
+}
+
 impl Listed {
     /// The events that the words of the command ask for: none, if they ask for none.
     pub(crate) fn of(words: &Taken<'_>) -> Listed {
         match words.span("steps") {
             Some((first, last)) => Listed { first, last },
-            None => Listed { first: 1, last: 0 },
+            None => NONE,
         }
     }
 
