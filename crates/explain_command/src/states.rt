@@ -44,13 +44,18 @@ pub(crate) fn add_process(text: &mut Text, tables: &str, process: usize) {
     }
 }
 
-/// Adds how deep the stack of a process is.
+/// Adds how deep the stack of a process is, or that its stack pointer lies outside of it.
 pub(crate) fn add_stack(text: &mut Text, k: &KernelState, process: Pid) {
     let entry = k.tables.process(process);
     let top = entry.stack.saturating_add(4);
+    let low = top.saturating_sub(entry.stack_size);
     let sp = k.harts[process.index()].regs[2];
-    text.numbered(", stack ", top.saturating_sub(sp) as u64);
-    text.numbered(" of ", entry.stack_size as u64);
+    if low <= sp && sp <= top {
+        text.numbered(", stack ", top.saturating_sub(sp) as u64);
+        text.numbered(" of ", entry.stack_size as u64);
+    } else {
+        text.numbered(", sp outside its stack of ", entry.stack_size as u64);
+    }
     text.put(" bytes\n");
 }
 
