@@ -1,10 +1,9 @@
 // proof.js - the page Proof: whether the programs keep the rule of a lock on every schedule, as the command `prove` says it
-import { layout_of } from "./assembler.js";
 import { $, make, say } from "./dom.js";
 import { xinu } from "./engine.js";
 import { page } from "./page.js";
 import { show_fault } from "./panels.js";
-import { Refused, images_of, program_name, stopped_words } from "./runs.js";
+import { Refused, images_of, program_name, source_of, stopped_words } from "./runs.js";
 import { guarded } from "./stepper.js";
 import { lines_of, utf8 } from "./text.js";
 
@@ -22,10 +21,10 @@ export function said_in(texts) {
 	return said;
 }
 const texts = () => page.work.programs.flatMap(({ text }) => (text === undefined ? [] : [text]));
-// The address of a word, which is a number or a label.
-export function address_of(word, given) {
+// The address of a word, which is a number or a label of one of the layouts.
+export function address_of(word, layouts) {
 	if (/^\d+$/.test(word)) return word;
-	const label = given.flatMap((text) => layout_of(text).labels).find(({ name }) => name === word);
+	const label = layouts.flatMap((layout) => layout?.labels || []).find(({ name }) => name === word);
 	if (!label) throw new Refused(`No program has a label “${word}”: name the word that the lock guards by its label or its address.`);
 	return String(label.at);
 }
@@ -39,11 +38,10 @@ export function forget_claim() {
 	$("proof").replaceChildren();
 }
 // The place that the answer's first line names: which program, and which line of its text.
-function place_in(text) {
-	const [, number, address] = /(\d+)\.img, address (\d+),/.exec(text) || [];
+function place_in(text, layouts) {
+	const [, number, address] = /(\d+)\.img, address (\d+),/.exec(text) || [], at = Number(address);
 	if (!number) return null;
-	const program = page.work.programs[number - 1], at = Number(address);
-	const line = program.text === undefined ? 0 : layout_of(program.text).lines.find((one) => one.at <= at && at < one.at + one.size)?.line || 0;
+	const line = layouts[number - 1]?.lines.find((one) => one.at <= at && at < one.at + one.size)?.line || 0;
 	return { key: `program ${number - 1}`, line };
 }
 const with_names = (text) => text.replace(/(\d+)\.img/g, (_, number) => program_name(page.work.programs[number - 1]));
@@ -52,11 +50,12 @@ async function prove_now() {
 	const [lock, word, rule] = FIELDS.map((field) => $(field).value.trim()), images = await images_of(page.work);
 	if (!lock || !word || !rule) throw new Refused("What is to be proved isn't said: a lock, its word and the rule, here or in comments of a program.");
 	const files = Object.fromEntries(images.map((image, i) => [`${i + 1}.img`, image]));
-	const address = address_of(word, texts());
+	const layouts = (await Promise.all(page.work.programs.map((program) => source_of(program)))).map(({ layout }) => layout);
+	const address = address_of(word, layouts);
 	const answer = await xinu(["prove", "--lock", lock, "--word", address, "--rule", rule, ...Object.keys(files)], { files });
 	if (answer.trap) throw new Refused(stopped_words(answer));
 	if (![PROVED, NOT_PROVED, NOT_FOLLOWED].includes(answer.status)) throw new Refused(with_names(answer.err.trim()));
-	return { status: answer.status, text: utf8(answer.out).trimEnd().replace(`the word at ${address}`, word === address ? "$&" : `${word} (at ${address})`) };
+	return { status: answer.status, layouts, text: utf8(answer.out).trimEnd().replace(`the word at ${address}`, word === address ? "$&" : `${word} (at ${address})`) };
 }
 export async function prove_all() {
 	const start = performance.now();
@@ -68,7 +67,7 @@ export async function prove_all() {
 		$("proof").replaceChildren(make("p", { class: "fault-text" }, $("status").textContent));
 		return;
 	}
-	const place = answer.status === PROVED ? null : place_in(answer.text), where = place?.line ? `  (line ${place.line})` : "";
+	const place = answer.status === PROVED ? null : place_in(answer.text, answer.layouts), where = place?.line ? `  (line ${place.line})` : "";
 	const [first, ...rest] = lines_of(with_names(answer.text));
 	const heads = { [PROVED]: "proved", [NOT_PROVED]: "refuted", [NOT_FOLLOWED]: "refuted" };
 	$("proof").replaceChildren(make("p", { class: heads[answer.status] }, first + where), make("pre", { class: "text" }, rest.join("\n")));

@@ -83,7 +83,7 @@ export async function run_of(work) {
 }
 // Texts by their names, which a stranger may have chosen.
 export const texts_of = (sources) => Object.assign(Object.create(null), sources);
-async function source_of(program) {
+export async function source_of(program) {
 	if (program.bytes) return { rows: line_rows_of(program.bytes) };
 	const answer = await xinu(["listing", "source.s"], { files: { "source.s": program.text } });
 	return answer.status === 0 ? { layout: layout_of(program.text, utf8(answer.out)), lines: program.text.split("\n") } : {};
