@@ -4,6 +4,7 @@ pub mod Counts
 pub mod Eligible
 pub mod Exclusion
 pub mod Fifo
+pub mod Held
 pub mod Highest
 pub mod Kernels
 pub mod Lows

@@ -4,4 +4,5 @@ pub mod Moments
 pub mod Policy
 pub mod RoundRobin
 pub mod Sleeping
+pub mod Stuck
 pub mod Tokens

@@ -9,6 +9,7 @@
 //! | [`round_robin`] | the turn of a ready process comes |
 //! | [`semaphores`] | those who wait on a semaphore go on in the order in which they came; its count is signals less waits; with a count of one it lets in one at a time |
 //! | [`sleepers`] | who sleeps wakes on time |
+//! | [`stuck`] | if everybody waits for another, no event changes it |
 //!
 //! A predicate on tables that is closed under the moves of calls is kept by each event: `proofs/Moves` says which moves there are, and `Passes`
 //! has the one pass over the calls and the events that all laws share.
@@ -18,3 +19,4 @@ pub mod policy;
 pub mod round_robin;
 pub mod semaphores;
 pub mod sleepers;
+pub mod stuck;

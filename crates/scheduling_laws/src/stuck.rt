@@ -1,0 +1,18 @@
+//! Who is stuck stays so.
+
+ghost use Rattle.std.specs.Prelude.{◌≡◌, List};
+ghost use Rattle.xinu_base.specs.declared.events.End.{End};
+ghost use Rattle.xinu_base.specs.declared.events.End.TheVariants.{Schedule};
+ghost use Rattle.xinu_base.specs.declared.events.Event.{Event};
+ghost use Rattle.xinu_base.specs.declared.lines.TranscriptLine.{TranscriptLine};
+ghost use Rattle.xinu_model.specs.Machine.{Xinu};
+ghost use Rattle.xinu_model.specs.Runs.{RunsTo};
+ghost use Rattle.xinu_model.specs.Sound.State.{IsSound};
+ghost use Rattle.scheduling_laws.specs.Stuck.{IsStuck, IsUnmoved};
+
+/// If all processes that live are suspended, receive without a limit or wait on a semaphore that isn't a device's, then each run goes on to the end of its
+/// schedule, in which the null process runs and nothing of any process changes.
+pub fn stuck_is_for_ever()
+    ensures { (events : List Event) (old : Xinu) (lines : List TranscriptLine) (new : Xinu) (end : End) → IsSound old → IsStuck old.tables →
+        RunsTo old events lines new end → (end ≡ Schedule) × (IsUnmoved old new × IsStuck new.tables) }
+{}
