@@ -1,5 +1,6 @@
 pub mod Asleep
 pub mod Calling
+pub mod Comings
 pub mod Counts
 pub mod Eligible
 pub mod Exclusion
@@ -19,6 +20,7 @@ pub mod Stretches
 pub mod Tallies
 pub mod TokenCalls
 pub mod Turns
+pub mod TwoTicks
 pub mod Waiters
 pub mod Wakes
 pub mod Waking

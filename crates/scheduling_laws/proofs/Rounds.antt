@@ -40,12 +40,12 @@ step_spared : (p : ℕ) (lines : List TranscriptLine) → list_any (is_placed p)
 step_spared p [] e = tt
 step_spared p (l ∷ lines) e = first_spared p l lines (or_parts (is_placed p l) (list_any (is_placed p) lines) e).0
 
-spared : (p : ℕ) (e : Event) (lines : List TranscriptLine) → list_any (is_placed p) lines ≡ false → MayDo (λ x. p ≢ x) Anyone (call_in e lines)
+pub spared : (p : ℕ) (e : Event) (lines : List TranscriptLine) → list_any (is_placed p) lines ≡ false → MayDo (λ x. p ≢ x) Anyone (call_in e lines)
 spared p Step lines none = step_spared p lines none
 spared p _ lines none = tt
 
 -- what waits its turn in sound tables
-waits_begins : (p : ℕ) (k : ℤ) (t : Tables) → IsSoundTables t → WaitsItsTurn p k t → Begins p k t.quantum (low p k t.ready) t
+pub waits_begins : (p : ℕ) (k : ℤ) (t : Tables) → IsSoundTables t → WaitsItsTurn p k t → Begins p k t.quantum (low p k t.ready) t
 waits_begins p k t c w = (
   (
     w.0,

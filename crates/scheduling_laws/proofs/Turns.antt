@@ -38,7 +38,7 @@ not_both : (a k top : ℤ) → k ≤ℤ a → int_lt a top ≡ true → top ≤�
 not_both a k top h i j = grind (arith, ints)
 
 -- others than p
-all_differ : (p : ℕ) (l : List ℕ) → (IsOneOf p l → ⊥) → AllByRecursion (λ x. p ≢ x) l
+pub all_differ : (p : ℕ) (l : List ℕ) → (IsOneOf p l → ⊥) → AllByRecursion (λ x. p ≢ x) l
 all_differ p [] n = tt
 all_differ p (x ∷ xs) n = ((λ e. n (inl e)), all_differ p xs (λ i. n (inr i)))
 
@@ -117,7 +117,7 @@ module _ (p : ℕ) (k : ℤ) (q most : ℕ) where
       (apart_itself t no_process None h.0, inr (inl (state_move_same t p no_process None Nowhere h.0.0 h.0.1)))
       (λ n. turned_moved t x no_process None Nowhere (λ e. n (sym e)) h)
 
-  turned_begins : (t : Tables) → Begins t → Turned t
+  pub turned_begins : (t : Tables) → Begins t → Turned t
   turned_begins t b = (b.1, inl b.0)
 
   turned_suspended : (t : Tables) (x : ℕ) → Begins t
@@ -130,7 +130,7 @@ module _ (p : ℕ) (k : ℤ) (q most : ℕ) where
       (λ n. turned_moved t x (in_state Suspended (process_at t x)) (message_at t x) Nowhere (λ e. n (sym e)) (turned_begins t b))
 
   -- waiters are released
-  turned_unblocked : (value : ℤ) (ps : List ℕ) (d : CallState) → AllByRecursion (λ x. p ≢ x) ps → Turned d.state.tables
+  pub turned_unblocked : (value : ℤ) (ps : List ℕ) (d : CallState) → AllByRecursion (λ x. p ≢ x) ps → Turned d.state.tables
       → Turned (unblock_all_with value ps d).state.tables
   turned_unblocked value [] d all h = h
   turned_unblocked value (x ∷ ps) d all h =
@@ -160,7 +160,7 @@ module _ (p : ℕ) (k : ℤ) (q most : ℕ) where
       ))
 
   -- Each move of a call leaves p no later, kills it or suspends it, if nobody gives p a priority.
-  turned_closed : IsClosed (λ x. p ≢ x) Anyone Begins (λ t owes. Turned t)
+  pub turned_closed : IsClosed (λ x. p ≢ x) Anyone Begins (λ t owes. Turned t)
   turned_closed = record {
     begins = turned_begins;
     owes = λ t h. h;
