@@ -273,7 +273,7 @@ module _ (sem p q : ℕ) where
         (still_moved t x y (message_at t x) InReady h.0, fair_replied t r x xs y (message_at t x) f h.1);
     counts = λ t b r x touch f h. (h.0, fair_given t r x f h.1);
     numbers = λ t b n h. h;
-    messages = λ t b l h. h;
+    messages = λ t b q m h. h;
     goes_on = λ t m k b. holds_first t t.current (record (process_at t t.current) { rest = rest.Nothing }) m Nowhere b (ap is_waiting k.runs);
     stops = λ t state left place touch h. let y = record (process_at t t.current) { state = state; rest = left } in (
       still_moved t t.current y (message_at t t.current) place h.0,

@@ -1,6 +1,6 @@
 -- What a call does to the tables, move by move, and when a predicate on tables is closed under these moves.
 use Rattle.std.proofs.Common.{◌≡◌, ◌≢◌, ◌⊎◌, ℕ, Bool, true, false, ◌||◌, List, [], ◌∷◌, take, Option, Some, None, ℤ}
-use Rattle.std.specs.Prelude.{slice_index}
+use Rattle.std.specs.Prelude.{slice_index, slice_set}
 use Rattle.xinu_base.specs.declared.syscalls.Call.{Call}
 use Rattle.scheduling_laws.specs.Tokens.{changes_semaphore}
 use Rattle.xinu_base.specs.declared.processes.Process.{Process}
@@ -68,7 +68,7 @@ pub record IsClosed (May Touch : ℕ → Type 0) (Begins : Tables → Type 0) (H
   pub counts : (t : Tables) (b : Bool) (sem : ℕ) (x : Semaphore) → MayChange Touch t sem → (x.waiters ≡ []) ⊎ (x.waiters ≡ (semaphore_at t sem).waiters) → Holds t b
       → Holds (with_semaphore sem x t) b
   pub numbers : (t : Tables) (b : Bool) (n : ℕ) → Holds t b → Holds (record t { last_semaphore = n }) b
-  pub messages : (t : Tables) (b : Bool) (l : List (Option ℕ)) → Holds t b → Holds (record t { messages = l }) b
+  pub messages : (t : Tables) (b : Bool) (q m : ℕ) → Holds t b → Holds (record t { messages = slice_set t.messages q (Some m) }) b
   pub goes_on : (t : Tables) (m : Option ℕ) → IsSoundTables t → Begins t
       → Holds (move_to t.current (record (process_at t t.current) { rest = rest.Nothing }) m Nowhere t) false
   pub stops : (t : Tables) (state : State) (left : Rest) (place : Place) → MayStop Touch place → Holds t false

@@ -288,7 +288,7 @@ module _ (sem : ℕ) (x : Semaphore) (image : x.owner ≡ Some owner.Image) wher
     );
     counts = λ t b r y touch f h. (left_given t r y (may_differs t r touch h.0) f h.0, h.1);
     numbers = λ t b n h. (record { many = h.0.many; kept = h.0.kept; states = h.0.states; apart = h.0.apart; few = h.0.few }, h.1);
-    messages = λ t b l h. (record { many = h.0.many; kept = h.0.kept; states = h.0.states; apart = h.0.apart; few = h.0.few }, h.1);
+    messages = λ t b q m h. (record { many = h.0.many; kept = h.0.kept; states = h.0.states; apart = h.0.apart; few = h.0.few }, h.1);
     goes_on = λ t m k b. let h = holds_begins t b in
         (left_moved t t.current (record (process_at t t.current) { rest = rest.Nothing }) m Nowhere tt h.1 h.0, h.1);
     stops = λ t state left place touch h.

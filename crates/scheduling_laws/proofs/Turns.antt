@@ -182,7 +182,7 @@ module _ (p : ℕ) (k : ℤ) (q most : ℕ) where
       h.1,
     );
     numbers = λ t b n h. h;
-    messages = λ t b l h. h;
+    messages = λ t b q m h. h;
     goes_on = λ t m c b. turned_moved t t.current (record (process_at t t.current) { rest = rest.Nothing }) m Nowhere (λ e. b.1.3 (sym e)) (turned_begins t b);
     stops = λ t state left place touch h.
         turned_moved t t.current (record (process_at t t.current) { state = state; rest = left }) (message_at t t.current) place (λ e. h.0.3 (sym e)) h;

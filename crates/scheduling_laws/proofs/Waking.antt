@@ -5,7 +5,8 @@ use Rattle.std.specs.List.{AllByRecursion}
 use Rattle.std.proofs.Math.ListN.{length-set}
 use Rattle.std.proofs.lemmas.Bool.{cond_both, and_parts, both_ways, eqb-true, eq-eqb}
 use Rattle.xinu_base.specs.declared.processes.Process.{Process}
-use Rattle.xinu_base.specs.declared.processes.State.TheVariants.{Current, Ready}
+use Rattle.xinu_base.specs.declared.processes.State.{State}
+use Rattle.xinu_base.specs.declared.processes.State.TheVariants.{Current, Free, Ready}
 use Rattle.xinu_model.specs.Clock.{a_tick_later, due, ticked, wakeup}
 use Rattle.xinu_model.specs.Machine.{Xinu, start}
 use Rattle.xinu_model.specs.Process.Scheduling.{in_state, ready, ready_all, resched}
@@ -17,8 +18,8 @@ use Rattle.table_laws.proofs.Tables.Scheduling.{inside_quantum}
 use Rattle.table_laws.proofs.Tables.Ticks.{sound_later, ticks_ready}
 use Rattle.table_laws.proofs.Tables.Unblock.{IsOneOf, unblock_all_ready}
 use Rattle.scheduling_laws.proofs.Resched.{by_resched, by_tick}
-use Rattle.scheduling_laws.proofs.Asleep.{is_entry, sleeps_moved, sleeps_resched}
-use Rattle.scheduling_laws.specs.Sleeping.{SleepsUntil}
+use Rattle.scheduling_laws.proofs.Asleep.{is_entry, not_in, sleeps_moved, sleeps_resched}
+use Rattle.scheduling_laws.specs.Sleeping.{IsUntil}
 
 -- a process that can run still can after one went to a state in which it can
 can_run_moved : (t : Tables) (p q : ℕ) (x : Process) (m : Option ℕ) (place : Place) → length t.processes ≡ 64 → q < 64 → CanRun x.state
@@ -28,7 +29,7 @@ can_run_moved t p q x m place e w new h =
     (λ n. subst CanRun (sym (state_move_other t p q x m place n)) h)
 
 -- or after a resched
-can_run_resched : (t : Tables) (p : ℕ) → IsInside t → CanRun (state_at t p) → CanRun (state_at (resched t) p)
+pub can_run_resched : (t : Tables) (p : ℕ) → IsInside t → CanRun (state_at t p) → CanRun (state_at (resched t) p)
 can_run_resched t p o h =
     by_resched (λ u. CanRun (state_at u p)) t o h
     (λ e. can_run_moved t p t.current (in_state Ready (process_at t t.current)) (message_at t t.current) InReady o.processes
@@ -87,13 +88,13 @@ ticks_ticked s k =
     ∙ cond_both d.owes_resched (resched later) later (λ v. v.ticks ≡ t.ticks + 1) (λ _. ticks_resched later (after false)) (λ _. refl)
     ∙ ap (λ n. n + 1) same
 
--- A sleeper can run after its tick.
-pub wakes_in_time : (p w : ℕ) (s : Xinu) → IsSoundTables s.tables → SleepsUntil p w s.tables → w ≡ s.tables.ticks + 1
-    → ((ticked s).state.tables.ticks ≡ w) × CanRun (state_at (ticked s).state.tables p)
-wakes_in_time p w s k z e =
+-- A sleeper, or who waits with a limit, can run after its tick.
+pub wakes_in_time : (a : State) → sleeping_places a ≡ 1 → (p w : ℕ) (s : Xinu) → IsSoundTables s.tables → IsUntil a p w s.tables
+    → w ≡ s.tables.ticks + 1 → ((ticked s).state.tables.ticks ≡ w) × CanRun (state_at (ticked s).state.tables p)
+wakes_in_time a late p w s k z e =
     let t = s.tables in
     let ps = due (t.ticks + 1) t.sleepers in
-    let within = within_table t p k.inside.processes (λ f. let g = sym z.0 ∙ f in cc) in
+    let within = within_table t p k.inside.processes (λ f. not_in a Free late refl (sym z.0 ∙ f)) in
     let one = subst (λ n. IsOneOf p (due n t.sleepers)) e (is_due p w t.sleepers z.1) in
     let is : CanRun (state_at (ready_all ps t) p) = inr (becomes_ready ps t p k.inside.processes within one) in
     (ticks_ticked s k ∙ sym e, by_tick (λ u. CanRun (state_at u p)) s k (λ u quantum ticks h. h) (λ u o h. can_run_resched u p o h) is)
@@ -108,8 +109,8 @@ of_entry P p w (x ∷ xs) all =
     (λ b _. (x, eqb-true x.1 w (and_parts (x.0 == p) (x.1 == w) b).1, all.0)) (λ _ h. of_entry P p w xs all.1 h)
 
 -- Who sleeps wakes later.
-pub sleeps_no_longer : (p w : ℕ) (t : Tables) → IsInside t → SleepsUntil p w t → t.ticks < w
-sleeps_no_longer p w t o z = let f = of_entry (λ e. t.ticks < e.1) p w t.sleepers o.later z.1 in subst (λ n. t.ticks < n) f.1 f.2
+pub sleeps_no_longer : (a : State) (p w : ℕ) (t : Tables) → IsInside t → IsUntil a p w t → t.ticks < w
+sleeps_no_longer a p w t o z = let f = of_entry (λ e. t.ticks < e.1) p w t.sleepers o.later z.1 in subst (λ n. t.ticks < n) f.1 f.2
 
 -- an entry of p with a tick is one of its entries, and one with another tick another
 two_entries : (p v w : ℕ) (l : List (ℕ × ℕ)) → v ≢ w → times (is_entry p v) l + times (is_entry p w) l ≤ entries_of p l
@@ -159,21 +160,22 @@ never_due t p w o awake i =
     let all = o.sleeping p in
     absurd (omega arith)
 
--- who isn't among those who become ready sleeps on
-sleeps_on : (ps : List ℕ) (t : Tables) (p w : ℕ) → (IsOneOf p ps → ⊥) → SleepsUntil p w t → SleepsUntil p w (ready_all ps t)
-sleeps_on [] t p w n z = z
-sleeps_on (q ∷ ps) t p w n z =
-    sleeps_on ps (ready q t) p w (λ i. n (inr i))
-    (sleeps_moved t p q w (in_state Ready (process_at t q)) (message_at t q) InReady (λ e. n (inl e)) z)
+module _ (a : State) (late : sleeping_places a ≡ 1) where
+  -- who isn't among those who become ready sleeps on
+  sleeps_on : (ps : List ℕ) (t : Tables) (p w : ℕ) → (IsOneOf p ps → ⊥) → IsUntil a p w t → IsUntil a p w (ready_all ps t)
+  sleeps_on [] t p w n z = z
+  sleeps_on (q ∷ ps) t p w n z =
+      sleeps_on ps (ready q t) p w (λ i. n (inr i))
+      (sleeps_moved a late t p q w (in_state Ready (process_at t q)) (message_at t q) InReady (λ e. n (inl e)) z)
 
--- A sleeper whose tick is another sleeps on.
-pub sleeps_through : (p w : ℕ) (s : Xinu) → IsSoundTables s.tables → SleepsUntil p w s.tables → w ≢ s.tables.ticks + 1
-    → SleepsUntil p w (ticked s).state.tables
-sleeps_through p w s k z n =
-    let t = s.tables in
-    let ps = due (t.ticks + 1) t.sleepers in
-    let once : entries_of p t.sleepers ≡ 1 = k.inside.sleeping p ∙ ap sleeping_places z.0 in
-    let both = two_entries p (t.ticks + 1) w t.sleepers (λ e. n (sym e)) in
-    let here = z.1 in
-    by_tick (SleepsUntil p w) s k (λ u quantum ticks y. y) (λ u o y. sleeps_resched u p w o y)
-    (sleeps_on ps t p w (λ i. let there = has_due p (t.ticks + 1) t.sleepers i in absurd (omega arith)) z)
+  -- A sleeper whose tick is another sleeps on.
+  pub sleeps_through : (p w : ℕ) (s : Xinu) → IsSoundTables s.tables → IsUntil a p w s.tables → w ≢ s.tables.ticks + 1
+      → IsUntil a p w (ticked s).state.tables
+  sleeps_through p w s k z n =
+      let t = s.tables in
+      let ps = due (t.ticks + 1) t.sleepers in
+      let once : entries_of p t.sleepers ≡ 1 = k.inside.sleeping p ∙ ap sleeping_places z.0 ∙ late in
+      let both = two_entries p (t.ticks + 1) w t.sleepers (λ e. n (sym e)) in
+      let here = z.1 in
+      by_tick (IsUntil a p w) s k (λ u quantum ticks y. y) (λ u o y. sleeps_resched a late u p w o y)
+      (sleeps_on ps t p w (λ i. let there = has_due p (t.ticks + 1) t.sleepers i in absurd (omega arith)) z)

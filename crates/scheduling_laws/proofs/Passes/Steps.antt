@@ -86,7 +86,7 @@ module _ {May Touch : ℕ → Type 0} {Begins : Tables → Type 0} {Holds : Tabl
       cond_both (listens (state_at t p))
       (record (with_tables (move_to p (in_state Ready (process_at t p)) (Some message) InReady t) d) { owes_resched = true })
       (with_tables (record t { messages = slice_set t.messages p (Some message) }) d) (Inside Holds)
-      (λ e. k.hears t d.owes_resched p message e h) (λ _. k.messages t d.owes_resched (slice_set t.messages p (Some message)) h)
+      (λ e. k.hears t d.owes_resched p message e h) (λ _. k.messages t d.owes_resched p message h)
 
   pub inside_sent : (p message : ℕ) (d : CallState) → Inside Holds d → Inside Holds (sent p message d)
   inside_sent p message d h =
