@@ -14,6 +14,7 @@ pub mod Orders
 pub mod Passes
 pub mod Quantum
 pub mod Quiet
+pub mod Released
 pub mod Resched
 pub mod Rounds
 pub mod Stretches

@@ -92,7 +92,7 @@ low_filter p k kept (x ∷ xs) h =
     (λ b. dropped (x.0 == p) (int_lt k x.1) (low p k (filter kept xs)) (low p k xs) (ne_eqb x.0 p (λ e. true≢false (sym (h.0 e) ∙ b))) less)
 
 -- and leaves them there.
-filter_has : (p : ℕ) (kept : ℕ × ℤ → Bool) (l : List (ℕ × ℤ)) → AllByRecursion (λ e. e.0 ≡ p → kept e ≡ true) l → 0 < entries_of p l
+pub filter_has : (p : ℕ) (kept : ℕ × ℤ → Bool) (l : List (ℕ × ℤ)) → AllByRecursion (λ e. e.0 ≡ p → kept e ≡ true) l → 0 < entries_of p l
     → 0 < entries_of p (filter kept l)
 filter_has p kept [] h = λ n. n
 filter_has p kept (x ∷ xs) h =

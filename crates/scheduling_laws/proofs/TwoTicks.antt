@@ -39,7 +39,7 @@ tick_alone s n less h =
     (none_due (s.tables.ticks + 1) n s.tables.sleepers less h)
 
 -- a key isn't below itself
-not_below : (a b : ℤ) → a ≡ b → int_lt a b ≡ false
+pub not_below : (a b : ℤ) → a ≡ b → int_lt a b ≡ false
 not_below a b e = by_test (int_lt a b) refl
   where
     less : int_lt a b ≡ true → ⊥

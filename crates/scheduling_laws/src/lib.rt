@@ -7,7 +7,7 @@
 //! |---|---|
 //! | [`policy`] | the process of the highest priority runs; no ready process is above it; a tick or two are left of its quantum |
 //! | [`round_robin`] | the turn of a ready process comes; two ticks end a quantum |
-//! | [`semaphores`] | those who wait on a semaphore go on in the order in which they came; its count is signals less waits; with a count of one it lets in one at a time |
+//! | [`semaphores`] | those who wait on a semaphore go on in the order in which they came, and equals run in it; its count is signals less waits; with a count of one it lets in one at a time |
 //! | [`sleepers`] | who sleeps wakes on time, and who waits for a message with a limit |
 //! | [`stuck`] | if everybody waits for another, no event changes it |
 //!

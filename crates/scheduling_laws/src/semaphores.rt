@@ -1,6 +1,6 @@
 //! In which order those who wait on a semaphore go on, what its count is, and that it excludes.
 
-ghost use Rattle.std.specs.Prelude.{◌≡◌, ◌≢◌, ◌⊎◌, ◌+◌, ◌+ℤ◌, ◌<◌, ◌++◌, ℕ, List, map, false, int_lt, neg_ℤ, pos, true};
+ghost use Rattle.std.specs.Prelude.{◌≡◌, ◌≢◌, ◌⊎◌, ◌+◌, ◌+ℤ◌, ◌<◌, ◌++◌, ℕ, List, map, false, int_lt, neg_ℤ, pos, take, true};
 ghost use Rattle.xinu_base.specs.declared.events.End.{End};
 ghost use Rattle.xinu_base.specs.declared.events.Event.{Event};
 ghost use Rattle.xinu_base.specs.declared.lines.TranscriptLine.{TranscriptLine};
@@ -8,14 +8,14 @@ ghost use Rattle.xinu_base.specs.declared.processes.State.TheVariants.{Free};
 ghost use Rattle.xinu_model.specs.Events.{Happens};
 ghost use Rattle.xinu_model.specs.Machine.{Xinu, closed};
 ghost use Rattle.xinu_model.specs.Process.Calls.{kill};
-ghost use Rattle.xinu_model.specs.Semaphores.Calls.{signal, wait};
+ghost use Rattle.xinu_model.specs.Semaphores.Calls.{semdelete, semreset, signal, signaln, wait};
 ghost use Rattle.xinu_model.specs.Semaphores.Counts.{count_of, is_good, most_tokens};
 ghost use Rattle.xinu_model.specs.Runs.{RunsTo};
 ghost use Rattle.xinu_model.specs.Sound.State.{IsSound};
 ghost use Rattle.xinu_model.specs.Sound.Tables.{CanRun, count_in};
-ghost use Rattle.xinu_model.specs.Tables.{semaphore_at, state_at};
+ghost use Rattle.xinu_model.specs.Tables.{process_at, semaphore_at, state_at};
 ghost use Rattle.scheduling_laws.specs.Exclusion.{IsUsedInPairs, all_entered, is_inside, nobody};
-ghost use Rattle.scheduling_laws.specs.Fairness.{IsReleased, WaitsBefore};
+ghost use Rattle.scheduling_laws.specs.Fairness.{IsAhead, IsReleased, WaitsBefore};
 ghost use Rattle.scheduling_laws.specs.Moments.{LeadTo, Moment, printed};
 ghost use Rattle.scheduling_laws.specs.Tokens.{is_renewed, killed_waiters, signals, waits};
 
@@ -27,6 +27,21 @@ pub fn waiters_go_on_in_order()
         WaitsBefore sem p q new.tables ⊎ (IsReleased sem p new.tables ⊎ (state_at new.tables q ≡ Free)) }
     ensures release { (sem p q : ℕ) (old : Xinu) (e : Event) (lines : List TranscriptLine) (new : Xinu) → IsSound old →
         Happens old e lines new → WaitsBefore sem p q old.tables → CanRun (state_at new.tables q) → IsReleased sem p new.tables }
+{}
+
+/// Of two with the same priority that one accepted `signaln`, `semreset` or `semdelete` releases, who came earlier runs after the call, or is in the ready
+/// list before the other.
+pub fn released_in_order()
+    ensures signaln { (sem p q : ℕ) (s : Xinu) → IsSound s → WaitsBefore sem p q s.tables →
+        (process_at s.tables p).priority ≡ (process_at s.tables q).priority → (n : ℕ) →
+        0 < count_in q (take n (semaphore_at s.tables sem).waiters) → is_good sem s.tables ≡ true →
+        int_lt most_tokens (count_of (semaphore_at s.tables sem) +ℤ pos n) ≡ false → IsAhead p q (closed (signaln sem (pos n) s)) }
+    ensures semreset { (sem p q : ℕ) (s : Xinu) → IsSound s → WaitsBefore sem p q s.tables →
+        (process_at s.tables p).priority ≡ (process_at s.tables q).priority → (n : ℕ) → is_good sem s.tables ≡ true →
+        IsAhead p q (closed (semreset sem (pos n) s)) }
+    ensures semdelete { (sem p q : ℕ) (s : Xinu) → IsSound s → WaitsBefore sem p q s.tables →
+        (process_at s.tables p).priority ≡ (process_at s.tables q).priority → is_good sem s.tables ≡ true →
+        IsAhead p q (closed (semdelete sem s)) }
 {}
 
 /// An accepted `wait` lowers the count of its semaphore by one, whether its caller waits or not. An accepted `signal` raises it by one, and so does
