@@ -20,6 +20,7 @@ pub mod Rounds
 pub mod Stretches
 pub mod Tallies
 pub mod TokenCalls
+pub mod Told
 pub mod Turns
 pub mod TwoTicks
 pub mod Waiters

@@ -56,7 +56,7 @@ pub fn counts_follow_the_calls()
         count_of (semaphore_at (closed (kill p s)) sem) ≡ count_of (semaphore_at s.tables sem) +ℤ pos 1 }
 {}
 
-/// A run is a stretch of moments, one for each event up to its end, that print its lines.
+/// A run is a stretch of moments that print its lines: one for each of its events, in their order, up to its end.
 pub fn runs_are_stretches()
     ensures { (events : List Event) (old : Xinu) (lines : List TranscriptLine) (new : Xinu) (end : End) →
         RunsTo old events lines new end →

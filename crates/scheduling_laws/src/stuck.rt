@@ -1,6 +1,6 @@
-//! Who is stuck stays so.
+//! Who is stuck stays so, and tables tell of it.
 
-ghost use Rattle.std.specs.Prelude.{◌≡◌, List};
+ghost use Rattle.std.specs.Prelude.{◌≡◌, List, true};
 ghost use Rattle.xinu_base.specs.declared.events.End.{End};
 ghost use Rattle.xinu_base.specs.declared.events.End.TheVariants.{Schedule};
 ghost use Rattle.xinu_base.specs.declared.events.Event.{Event};
@@ -8,11 +8,18 @@ ghost use Rattle.xinu_base.specs.declared.lines.TranscriptLine.{TranscriptLine};
 ghost use Rattle.xinu_model.specs.Machine.{Xinu};
 ghost use Rattle.xinu_model.specs.Runs.{RunsTo};
 ghost use Rattle.xinu_model.specs.Sound.State.{IsSound};
-ghost use Rattle.scheduling_laws.specs.Stuck.{IsStuck, IsUnmoved};
+ghost use Rattle.xinu_model.specs.Text.{tables_of};
+ghost use Rattle.scheduling_laws.specs.Stuck.{IsStuck, IsUnmoved, told_stuck};
 
 /// If all processes that live are suspended, receive without a limit or wait on a semaphore that isn't a device's, then each run goes on to the end of its
 /// schedule, in which the null process runs and nothing of any process changes.
 pub fn stuck_is_for_ever()
     ensures { (events : List Event) (old : Xinu) (lines : List TranscriptLine) (new : Xinu) (end : End) → IsSound old → IsStuck old.tables →
         RunsTo old events lines new end → (end ≡ Schedule) × (IsUnmoved old new × IsStuck new.tables) }
+{}
+
+/// The tables of a state say that it is stuck if and only if it is.
+pub fn tables_tell_who_is_stuck()
+    ensures told { (s : Xinu) → told_stuck (tables_of s) ≡ true → IsStuck s.tables }
+    ensures tell { (s : Xinu) → IsStuck s.tables → told_stuck (tables_of s) ≡ true }
 {}
