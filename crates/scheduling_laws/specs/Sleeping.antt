@@ -5,7 +5,7 @@ use Rattle.xinu_base.specs.declared.processes.State.TheVariants.{Sleeping, Timed
 use Rattle.xinu_model.specs.Sound.Tables.{times}
 use Rattle.xinu_model.specs.Tables.{Tables, state_at}
 
--- Process p is in a state of those that have a tick, and its tick is w.
+-- Process p is in this state, and it has tick w among the sleepers.
 abbrev pub IsUntil : State → ℕ → ℕ → Tables → Type 0
 IsUntil state p w t = (state_at t p ≡ state) × (0 < times (λ e. (e.0 == p) && (e.1 == w)) t.sleepers)
 

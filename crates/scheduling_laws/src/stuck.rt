@@ -11,8 +11,8 @@ ghost use Rattle.xinu_model.specs.Sound.State.{IsSound};
 ghost use Rattle.xinu_model.specs.Text.{tables_of};
 ghost use Rattle.scheduling_laws.specs.Stuck.{IsStuck, IsUnmoved, told_stuck};
 
-/// If all processes that live are suspended, receive without a limit or wait on a semaphore that isn't a device's, then each run goes on to the end of its
-/// schedule, in which the null process runs and nothing of any process changes.
+/// If somebody lives besides the null process, and all of them are suspended, receive without a limit or wait on a semaphore that isn't a device's, then
+/// each run goes on to the end of its schedule, the null process runs, and nothing of any process changes.
 pub fn stuck_is_for_ever()
     ensures { (events : List Event) (old : Xinu) (lines : List TranscriptLine) (new : Xinu) (end : End) → IsSound old → IsStuck old.tables →
         RunsTo old events lines new end → (end ≡ Schedule) × (IsUnmoved old new × IsStuck new.tables) }
