@@ -1,0 +1,17 @@
+pub mod Acting
+pub mod Calling
+pub mod Creating
+pub mod Idle
+pub mod Knowing
+pub mod Obeying
+pub mod Ordered
+pub mod Pairs
+pub mod Programs
+pub mod Reacting
+pub mod Rows
+pub mod Running
+pub mod Signals
+pub mod Slots
+pub mod Starting
+pub mod Stepping
+pub mod Waits

@@ -1,0 +1,27 @@
+//! What is proved of the producer and the consumer.
+
+ghost use Rattle.std.specs.Prelude.{◌≡◌, List};
+ghost use Rattle.bounded_buffer.specs.Buffer.{buffer_images};
+ghost use Rattle.bounded_buffer.specs.Statement.{IsInOrder, put_in, puts_told, taken_in, takes_told};
+ghost use Rattle.part_laws.specs.GivenDisks.{AreSoundDisks};
+ghost use Rattle.scheduling_laws.specs.Moments.{LeadTo, Moment};
+ghost use Rattle.xinu_base.specs.declared.events.Event.{Event};
+ghost use Rattle.xinu_base.specs.declared.lines.TranscriptLine.{TranscriptLine};
+ghost use Rattle.xinu_model.specs.Boot.{Boots, Disks, boot_on};
+ghost use Rattle.xinu_model.specs.Machine.{Xinu};
+ghost use Rattle.xinu_model.specs.Runs.{IsTranscript};
+
+/// The programs boot, on any disks.
+pub fn the_programs_boot()
+    ensures boots { (disks : Disks) → (start : Xinu) × (boot_on disks buffer_images ≡ Boots start) }
+{}
+
+/// At each moment of each run of the two, on any disks, the items in the buffer are those that were put and not taken, in order, and at most two;
+/// the item that the consumer loads is the one whose number is how many it has taken; and both processes are alive. So it is by the lines
+/// `call P signal 5` and `call P signal 4` of a transcript.
+pub fn no_item_is_lost()
+    ensures moment { (disks : Disks) (start now : Xinu) (ms : List Moment) → AreSoundDisks disks → boot_on disks buffer_images ≡ Boots start →
+        LeadTo start ms now → IsInOrder (put_in ms) (taken_in ms) now }
+    ensures transcript { (disks : Disks) (events : List Event) (last : Xinu) (all : List TranscriptLine) → AreSoundDisks disks →
+        IsTranscript disks buffer_images events last all → IsInOrder (puts_told all) (takes_told all) last }
+{}
