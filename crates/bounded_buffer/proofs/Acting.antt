@@ -1,40 +1,28 @@
 -- What comes of an instruction of the producer, or of the consumer: the programs run on.
-use Rattle.std.proofs.Common.{◌≡◌, ◌≢◌, ◌∙◌, ◌⊎◌, ⊎_elim, inl, inr, refl, sym, ap, subst, arith, ℕ, suc, zero, ◌+◌, ◌*◌, ◌≤◌, ◌<◌, ◌%◌, ◌^◌, ◌==◌, List, [], ◌∷◌, length, get_or, set, take, drop, Bool, false, true, cond, None}
-use Rattle.std.proofs.lemmas.Bool.{both_ways, cases_lt, cond_both, eqb-false}
-use Rattle.scheduling_laws.specs.Moments.{call_in}
-use Rattle.scheduling_laws.specs.Tokens.{is_made}
-use Rattle.xinu_base.specs.declared.events.Event.{Event}
-use Rattle.xinu_base.specs.declared.events.Event.TheVariants.{Disk0, Disk1, Dump, Fail0, Fail1, Key, Step, Tick, Tx}
-use Rattle.xinu_base.specs.declared.lines.TranscriptLine.{TranscriptLine}
-use Rattle.xinu_base.specs.declared.processes.Rest.TheVariants.{Nothing}
-use Rattle.xinu_base.specs.declared.processes.State.TheVariants.{Current, Free, Waiting}
+use Rattle.std.proofs.Common.{◌≡◌, ◌∙◌, ◌⊎◌, ⊎_elim, inl, inr, refl, sym, ap, subst, arith, ℕ, suc, zero, ◌+◌, ◌*◌, ◌≤◌, ◌<◌, ◌%◌, ◌^◌, List, [], ◌∷◌, length, get_or, set, false, true}
+use Rattle.std.proofs.lemmas.Bool.{both_ways, cases_lt}
+use Rattle.xinu_base.specs.declared.processes.State.TheVariants.{Current}
 use Rattle.xinu_base.specs.declared.registers.Hart.{Hart}
-use Rattle.xinu_laws.proofs.Preserve.Events.{state_event}
-use Rattle.xinu_model.specs.Calls.{continued}
-use Rattle.xinu_model.specs.Events.{Happens, effect_of, instruction_step, is_done, made_first, next_file_call, reacted, step_with, stepped, with_executed}
-use Rattle.xinu_model.specs.Files.Syscalls.{files_of}
+use Rattle.xinu_model.specs.Events.{reacted, with_executed}
 use Rattle.xinu_model.specs.Isa.Effects.{Executed}
-use Rattle.xinu_model.specs.Isa.Exec.{exec, perform}
-use Rattle.xinu_model.specs.Machine.{EventResult, Xinu, end_of_event, no_hart, nothing_happens}
+use Rattle.xinu_model.specs.Isa.Exec.{exec}
+use Rattle.xinu_model.specs.Machine.{EventResult, Xinu, no_hart}
 use Rattle.xinu_model.specs.Memory.{number_at, ram_size, with_number}
-use Rattle.xinu_model.specs.Semaphores.Counts.{is_good, is_images}
-use Rattle.xinu_model.specs.Sound.State.{IsSound}
-use Rattle.xinu_model.specs.Tables.{process_at, semaphore_at, state_at}
+use Rattle.xinu_model.specs.Semaphores.Counts.{is_good}
+use Rattle.xinu_model.specs.Tables.{semaphore_at, state_at}
 use Rattle.program_logic.proofs.Answering.{given}
 use Rattle.program_logic.proofs.Fetching.{performed}
-use Rattle.program_logic.proofs.Idle.{nothing_left, passes}
 use Rattle.program_logic.specs.Images.{Lie}
 use Rattle.bounded_buffer.proofs.Calling.{AreTwo, Did}
 use Rattle.bounded_buffer.proofs.Creating.{by_own}
-use Rattle.bounded_buffer.proofs.Idle.{bystanding, each_of, idle_runs, place_within, tick_idle}
-use Rattle.bounded_buffer.proofs.Obeying.{AreObeyed, Goes, IsObeyed, Makes, Obeys, Puts, Signals, Stage, Waits, held, stage_of, stored}
+use Rattle.bounded_buffer.proofs.Idle.{each_of, place_within}
+use Rattle.bounded_buffer.proofs.Obeying.{AreObeyed, Goes, IsObeyed, Obeys, Puts, Stage, held, stage_of, stored}
 use Rattle.bounded_buffer.proofs.Pairs.{swapped}
-use Rattle.bounded_buffer.proofs.Programs.{consumer_obeys, producer_obeys}
 use Rattle.bounded_buffer.proofs.Reacting.{Knows, makes_then, signals_then, waits_then, went}
 use Rattle.bounded_buffer.proofs.Running.{AreRunning, IsSemaphore, IsStage, IsThread, Runs, Stands}
 use Rattle.bounded_buffer.proofs.Slots.{item_stored, other_slot, program_stays}
-use Rattle.bounded_buffer.specs.Buffer.{At, code, first, slot_of}
-use Rattle.bounded_buffer.specs.Places.{Bare, Done, Holding, Outside, Phase, Row, Single, no_row, says, words_in}
+use Rattle.bounded_buffer.specs.Buffer.{code, first, slot_of}
+use Rattle.bounded_buffer.specs.Places.{Done, Holding, Phase, Row, no_row, says, words_in}
 
 -- What comes of an event: the programs run on, and the kernel doesn't panic.
 pub record Next (i j : ℕ) (x : EventResult) : Type 0 where

@@ -1,8 +1,7 @@
 -- The current one of the two processes makes a call: what is to be known before, and what comes of it.
-use Rattle.std.proofs.Common.{◌≡◌, ◌≢◌, ◌∙◌, ◌⊎◌, ⊎_elim, inl, inr, refl, sym, ap, subst, arith, ℕ, ℤ, suc, ◌+◌, ◌*◌, ◌≤◌, ◌<◌, List, length, get_or, set, Bool, true, false}
+use Rattle.std.proofs.Common.{◌≡◌, ◌≢◌, ◌∙◌, inl, sym, subst, arith, ℕ, ℤ, suc, ◌+◌, ◌*◌, ◌≤◌, ◌<◌, length, get_or, set, false}
 use Rattle.std.proofs.Math.ListN.{length-set}
 use Rattle.xinu_base.specs.declared.processes.Rest.TheVariants.{Nothing}
-use Rattle.xinu_base.specs.declared.registers.Hart.{Hart}
 use Rattle.xinu_model.specs.Isa.Effects.{following}
 use Rattle.xinu_model.specs.Machine.{EventResult, Xinu, no_hart, with_reply}
 use Rattle.xinu_model.specs.Sound.State.{IsSound}
@@ -13,7 +12,7 @@ use Rattle.program_logic.proofs.Answering.{after_call, asked, can_still, given}
 use Rattle.program_logic.proofs.Replies.{reply_mine, reply_other}
 use Rattle.program_logic.proofs.Threads.{free_kept}
 use Rattle.program_logic.proofs.Turns.{AreTurned}
-use Rattle.bounded_buffer.proofs.Obeying.{Stage, held, stage_of, stored}
+use Rattle.bounded_buffer.proofs.Obeying.{Stage, held, stored}
 use Rattle.bounded_buffer.proofs.Pairs.{thread_kept}
 use Rattle.bounded_buffer.proofs.Running.{IsPair, IsSemaphore, IsStage, IsThread}
 use Rattle.bounded_buffer.specs.Buffer.{At, first}

@@ -1,5 +1,5 @@
 -- `semcreate`: the producer makes the two semaphores, one after the other.
-use Rattle.std.proofs.Common.{◌≡◌, ◌≢◌, ◌∙◌, inl, inr, refl, sym, ap, subst, arith, ℕ, suc, zero, ◌+◌, ◌-◌, ◌≤◌, ◌<◌, ◌++◌, List, [], get_or, set, Bool, not, cond, true, false, pos, min, Option, Some, None}
+use Rattle.std.proofs.Common.{◌≡◌, ◌≢◌, ◌∙◌, inl, inr, refl, sym, ap, subst, arith, ℕ, suc, zero, ◌+◌, ◌-◌, ◌<◌, ◌++◌, List, [], get_or, set, Bool, not, cond, true, pos, min, Some, None}
 use Rattle.std.proofs.lemmas.List.{get_or-set_other, get_or-set_same}
 use Rattle.std.specs.List.{find}
 use Rattle.std.specs.Prelude.{is_some}
@@ -59,10 +59,13 @@ module _ {q : ℕ} {g : Phase} {i j k : ℕ} {s : Xinu} where
         count = i;
         pair = answered c One Single i (pos 4) (make_semaphore 4 Image 2 t) 2 c.pair.b_tokens (λ r. turned_same (process_at t r)) (place (word (pos 4)))
             (inl (ap (λ (z : Semaphore). is_images z.owner) there, ap (λ (z : Semaphore). z.tokens) there)) (sum c.pair.own)
-            (subst (λ z. IsSemaphore z c.pair.b_tokens 0) (sym (other 5 (λ e. absurd (omega arith)))) c.pair.their) c.pair.their_sum
-            (ap (λ (z : Semaphore). is_images z.owner) there,
-            (ap (λ (z : Semaphore). z.owner) (other 5 (λ e. absurd (omega arith))) ∙ made.1.0,
-            (ap (λ (z : Semaphore). z.owner) (other 6 (λ e. absurd (omega arith))) ∙ made.1.1.0, refl)));
+            (subst (λ z. IsSemaphore z c.pair.b_tokens 0) (sym (other 5 (λ e. absurd (omega arith)))) c.pair.their) c.pair.their_sum (
+              ap (λ (z : Semaphore). is_images z.owner) there,
+              (
+                ap (λ (z : Semaphore). z.owner) (other 5 (λ e. absurd (omega arith))) ∙ made.1.0,
+                (ap (λ (z : Semaphore). z.owner) (other 6 (λ e. absurd (omega arith))) ∙ made.1.1.0, refl),
+              ),
+            );
         memory = refl;
         disk = refl;
         files = refl;
@@ -96,10 +99,13 @@ module _ {q : ℕ} {g : Phase} {i j k : ℕ} {s : Xinu} where
         count = i;
         pair = answered c Two Outside i (pos 5) (make_semaphore 5 Image 0 t) c.pair.a_tokens 0 (λ r. turned_same (process_at t r)) (place (word (pos 5)))
             (subst (λ z. IsSemaphore z c.pair.a_tokens 2) (sym (other 4 (λ e. absurd (omega arith)))) c.pair.own) c.pair.own_sum
-            (inl (ap (λ (z : Semaphore). is_images z.owner) there, ap (λ (z : Semaphore). z.tokens) there)) (sum c.pair.their)
-            (ap (λ (z : Semaphore). is_images z.owner) (other 4 (λ e. absurd (omega arith))) ∙ made.0,
-            (ap (λ (z : Semaphore). is_images z.owner) there,
-            (ap (λ (z : Semaphore). z.owner) (other 6 (λ e. absurd (omega arith))) ∙ made.1.1.0, refl)));
+            (inl (ap (λ (z : Semaphore). is_images z.owner) there, ap (λ (z : Semaphore). z.tokens) there)) (sum c.pair.their) (
+              ap (λ (z : Semaphore). is_images z.owner) (other 4 (λ e. absurd (omega arith))) ∙ made.0,
+              (
+                ap (λ (z : Semaphore). is_images z.owner) there,
+                (ap (λ (z : Semaphore). z.owner) (other 6 (λ e. absurd (omega arith))) ∙ made.1.1.0, refl),
+              ),
+            );
         memory = refl;
         disk = refl;
         files = refl;

@@ -1,15 +1,14 @@
 -- The events that are no steps: the programs run on, whatever comes.
-use Rattle.std.proofs.Common.{◌≡◌, ◌≢◌, ◌∙◌, ◌⊎◌, ⊎_elim, inl, inr, refl, sym, ap, subst, arith, ℕ, suc, zero, ◌+◌, ◌*◌, ◌≤◌, ◌<◌, ◌==◌, List, [], ◌∷◌, length, get_or, set, cond, false, None, Option}
+use Rattle.std.proofs.Common.{◌≡◌, ◌∙◌, ⊎_elim, inl, inr, refl, sym, ap, subst, arith, ℕ, suc, zero, ◌+◌, ◌≤◌, ◌<◌, List, [], ◌∷◌, length, get_or, set, cond, false, None}
 use Rattle.std.proofs.lemmas.Bool.{eq-eqb}
 use Rattle.scheduling_laws.proofs.Resched.{by_tick}
 use Rattle.xinu_base.specs.declared.processes.State.{State}
-use Rattle.xinu_base.specs.declared.processes.State.TheVariants.{Current, Free, Ready, Waiting}
+use Rattle.xinu_base.specs.declared.processes.State.TheVariants.{Current, Ready}
 use Rattle.xinu_model.specs.Clock.{due, ticked, wakeup}
 use Rattle.xinu_model.specs.Machine.{CallState, Xinu, no_hart, start, unblock_all, with_replies}
-use Rattle.xinu_model.specs.Memory.{number_at, ram_size}
+use Rattle.xinu_model.specs.Memory.{number_at}
 use Rattle.xinu_model.specs.Process.Scheduling.{ready_all}
-use Rattle.xinu_model.specs.Sound.State.{IsSound}
-use Rattle.xinu_model.specs.Sound.Tables.{CanRun, IsSoundTables, entries_of, sleeping_places}
+use Rattle.xinu_model.specs.Sound.Tables.{CanRun, entries_of, sleeping_places}
 use Rattle.xinu_model.specs.Tables.{state_at}
 use Rattle.program_logic.proofs.Threads.{IsIdle}
 use Rattle.program_logic.proofs.Turns.{Turns, turns_resched, turns_same, turns_through}

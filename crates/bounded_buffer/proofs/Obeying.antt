@@ -1,5 +1,5 @@
 -- What is to be shown of each word of the two programs: that it leads to places at which what is said of them holds.
-use Rattle.std.specs.Prelude.{◌≡◌, ◌⊎◌, ◌<◌, ℕ, suc, zero, ◌+◌, ◌*◌, ◌%◌, ◌^◌, List, [], ◌∷◌, length, slice_index, slice_set}
+use Rattle.std.specs.Prelude.{◌≡◌, ◌⊎◌, ℕ, suc, zero, ◌+◌, ◌*◌, ◌%◌, ◌^◌, List, [], ◌∷◌, length, slice_index, slice_set}
 use Rattle.xinu_base.specs.declared.registers.Hart.{Hart}
 use Rattle.xinu_base.specs.declared.registers.Outcome.TheVariants.{Went, Call}
 use Rattle.xinu_model.specs.Isa.Effects.{Executed, following}

@@ -1,14 +1,13 @@
 -- What is said of the two processes stays so as turns, the console and the kernel's semaphores change; and it can be said from either side.
-use Rattle.std.proofs.Common.{◌≡◌, ◌≢◌, ◌∙◌, ◌⊎◌, ⊎_elim, inl, inr, refl, sym, ap, subst, arith, ℕ, ◌+◌, ◌≤◌, ◌<◌, List, get_or, Option, None, true}
+use Rattle.std.proofs.Common.{◌≡◌, ◌∙◌, ◌⊎◌, inl, inr, sym, ap, subst, arith, ℕ, ◌+◌, ◌≤◌, List, get_or, None}
 use Rattle.xinu_base.specs.declared.processes.Process.{Process}
 use Rattle.xinu_base.specs.declared.registers.Hart.{Hart}
-use Rattle.xinu_base.specs.declared.semaphores.Owner.{Owner}
 use Rattle.xinu_model.specs.Machine.{no_hart}
 use Rattle.xinu_model.specs.Semaphores.Counts.{is_images}
 use Rattle.xinu_model.specs.Sound.Tables.{CanRun}
-use Rattle.xinu_model.specs.Tables.{Semaphore, Tables, process_at, semaphore_at}
+use Rattle.xinu_model.specs.Tables.{Semaphore, Tables, process_at}
 use Rattle.program_logic.proofs.Threads.{cant_run, free_kept}
-use Rattle.program_logic.proofs.Turns.{AreTurned, Turned, Turns}
+use Rattle.program_logic.proofs.Turns.{Turned, Turns}
 use Rattle.bounded_buffer.proofs.Obeying.{Neither, One, Stage, Two}
 use Rattle.bounded_buffer.proofs.Running.{IsPair, IsSemaphore, IsStage, IsThread, Stands, owner_of}
 use Rattle.bounded_buffer.specs.Places.{Phase}

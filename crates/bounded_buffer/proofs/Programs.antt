@@ -1,5 +1,5 @@
 -- Each word of the two programs obeys.
-use Rattle.std.proofs.Common.{◌≡◌, ◌≢◌, ◌∙◌, ℕ, suc, ◌+◌, ◌*◌, ◌%◌, ◌^◌, ◌<◌, ◌≤◌, ◌==◌, Bool, not, cond, true, false, List, [], ◌∷◌, length, get_or, set, inl, inr, refl, sym, subst, arith, ap, Some, None}
+use Rattle.std.proofs.Common.{◌≡◌, ◌≢◌, ◌∙◌, ℕ, ◌+◌, ◌*◌, ◌%◌, ◌≤◌, ◌==◌, not, cond, List, [], ◌∷◌, get_or, set, inl, inr, refl, arith, ap}
 use Rattle.std.proofs.lemmas.Bool.{eq-eqb}
 use Rattle.std.proofs.lemmas.List.{get_or-set_other}
 use Rattle.std.specs.Prelude.{slice_index}
@@ -9,15 +9,14 @@ use Rattle.xinu_base.specs.declared.registers.Outcome.TheVariants.{Trap}
 use Rattle.xinu_model.specs.Isa.Effects.{branches, following, goes, jumps, plus, stops}
 use Rattle.xinu_model.specs.Isa.Exec.{perform}
 use Rattle.xinu_model.specs.Isa.Instructions.{FormB, FormJ, fields}
-use Rattle.bounded_buffer.specs.Buffer.{At, code, consumer, first, producer}
-use Rattle.bounded_buffer.specs.Places.{Bare, Counts, Done, Holding, Known, Number, Outside, Phase, Row, Single, no_row, says}
+use Rattle.bounded_buffer.specs.Buffer.{code, consumer, producer}
+use Rattle.bounded_buffer.specs.Places.{Bare, Counts, Done, Holding, Number, Outside, Phase, Row, Single, no_row, says}
 use Rattle.bounded_buffer.proofs.Knowing.{here}
-use Rattle.bounded_buffer.proofs.Obeying.{AreObeyed, IsObeyed}
+use Rattle.bounded_buffer.proofs.Obeying.{AreObeyed}
 use Rattle.bounded_buffer.proofs.Rows as rows
 use Rattle.bounded_buffer.proofs.Rows.{gone_to}
 
 infixr 4 ◌⨾◌
-
 -- a table of proofs, row by row
 ◌⨾◌ : {A B : Type 0} → A → B → A × B
 a ⨾ b = (a, b)
@@ -109,31 +108,31 @@ producer_obeys =
     rows.puts 1 0 (omega arith) (p_row 0) 10 2 (λ h m. refl) (omega arith) refl ⨾
     rows.puts 1 1 (omega arith) (p_row 1) 17 14 (λ h m. refl) (omega arith) refl ⨾
     rows.makes_room 1 2 (omega arith) (Number 10 2 ∷ Number 17 14 ∷ Counts 8 0 ∷ []) refl (λ c regs all. (all.0, all.1.0))
-      (λ c x regs even all. (even, (kept regs 8 x (λ e. absurd (omega arith)) all.1.1.0, tt))) ⨾
+    (λ c x regs even all. (even, (kept regs 8 x (λ e. absurd (omega arith)) all.1.1.0, tt))) ⨾
     rows.puts 1 3 (omega arith) (p_row 3) 10 0 (λ h m. refl) (omega arith) refl ⨾
     rows.puts 1 4 (omega arith) (p_row 4) 17 14 (λ h m. refl) (omega arith) refl ⨾
     rows.makes_items 1 5 (omega arith) (Number 10 0 ∷ Number 17 14 ∷ Counts 8 0 ∷ []) refl (λ c regs all. (all.0, all.1.0))
-      (λ c x regs even all. (even, (kept regs 8 x (λ e. absurd (omega arith)) all.1.1.0, tt))) ⨾
+    (λ c x regs even all. (even, (kept regs 8 x (λ e. absurd (omega arith)) all.1.1.0, tt))) ⨾
     rows.puts 1 6 (omega arith) (p_row 6) 10 4 (λ h m. refl) (omega arith) refl ⨾
     rows.puts 1 7 (omega arith) (p_row 7) 17 18 (λ h m. refl) (omega arith) refl ⨾
     rows.waits 1 8 (omega arith) 0 (Number 10 4 ∷ Number 17 18 ∷ Counts 8 0 ∷ []) (λ c regs all. (all.0, all.1.0))
-      (λ c regs many even all. (even, (kept regs 8 0 (λ e. absurd (omega arith)) all.1.1.0, tt))) (inl refl) ⨾
+    (λ c regs many even all. (even, (kept regs 8 0 (λ e. absurd (omega arith)) all.1.1.0, tt))) (inl refl) ⨾
     rows.stores 1 9 (omega arith) 0x0a802223 0 refl (λ h m. refl) (λ c regs even is. (even, (is, tt))) ⨾
     rows.bumps 1 10 (omega arith) 0 (λ c regs even is. (even, (is, tt))) ⨾
     rows.puts 1 11 (omega arith) (p_row 11) 10 5 (λ h m. refl) (omega arith) refl ⨾
     rows.puts 1 12 (omega arith) (p_row 12) 17 19 (λ h m. refl) (omega arith) refl ⨾
     rows.signals_by 1 13 (omega arith) 0 (Number 10 5 ∷ Number 17 19 ∷ Counts 8 1 ∷ []) (λ c regs all. (all.0, all.1.0))
-      (λ c regs many even all. (omega (arith, even), (kept regs 8 0 (λ e. absurd (omega arith)) (let e = all.1.1.0 in omega (arith, e)), tt))) ⨾
+    (λ c regs many even all. (omega (arith, even), (kept regs 8 0 (λ e. absurd (omega arith)) (let e = all.1.1.0 in omega (arith, e)), tt))) ⨾
     rows.puts 1 14 (omega arith) (p_row 14) 10 4 (λ h m. refl) (omega arith) refl ⨾
     rows.puts 1 15 (omega arith) (p_row 15) 17 18 (λ h m. refl) (omega arith) refl ⨾
     rows.waits 1 16 (omega arith) 1 (Number 10 4 ∷ Number 17 18 ∷ Counts 8 0 ∷ []) (λ c regs all. (all.0, all.1.0))
-      (λ c regs many even all. (even, (kept regs 8 0 (λ e. absurd (omega arith)) all.1.1.0, tt))) (inl refl) ⨾
+    (λ c regs many even all. (even, (kept regs 8 0 (λ e. absurd (omega arith)) all.1.1.0, tt))) (inl refl) ⨾
     rows.stores 1 17 (omega arith) 0x0a802423 1 refl (λ h m. refl) (λ c regs even is. (even, (is, tt))) ⨾
     rows.bumps 1 18 (omega arith) 1 (λ c regs even is. (even, (is, tt))) ⨾
     rows.puts 1 19 (omega arith) (p_row 19) 10 5 (λ h m. refl) (omega arith) refl ⨾
     rows.puts 1 20 (omega arith) (p_row 20) 17 19 (λ h m. refl) (omega arith) refl ⨾
     rows.signals_by 1 21 (omega arith) 1 (Number 10 5 ∷ Number 17 19 ∷ Counts 8 1 ∷ []) (λ c regs all. (all.0, all.1.0))
-      (λ c regs many even all. (omega (arith, even), (kept regs 8 0 (λ e. absurd (omega arith)) (let e = all.1.1.0 in omega (arith, e)), tt))) ⨾
+    (λ c regs many even all. (omega (arith, even), (kept regs 8 0 (λ e. absurd (omega arith)) (let e = all.1.1.0 in omega (arith, e)), tt))) ⨾
     rows.jumps 1 22 (p_row 22) (λ f. 6) (λ f c h memory pc may. jump 24 h memory refl (omega arith) pc) producer_again ⨾ tt
 
 -- and each of the consumer.
@@ -142,23 +141,23 @@ consumer_obeys =
     rows.puts 2 0 (omega arith) (c_row 0) 10 5 (λ h m. refl) (omega arith) refl ⨾
     rows.puts 2 1 (omega arith) (c_row 1) 17 18 (λ h m. refl) (omega arith) refl ⨾
     rows.waits 2 2 (omega arith) 0 (Number 10 5 ∷ Number 17 18 ∷ []) (λ c regs all. (all.0, all.1.0))
-      (λ c regs many even all. (even, (here regs 10 0 many (omega arith), tt)))
-      (inr (λ c regs many even all. (even, (here regs 10 4294967295 many (omega arith), tt)))) ⨾
+    (λ c regs many even all. (even, (here regs 10 0 many (omega arith), tt)))
+    (inr (λ c regs many even all. (even, (here regs 10 4294967295 many (omega arith), tt)))) ⨾
     rows.jumps 2 3 (c_row 3) (back_or_on 0 4) branched_0 after_branch_0 ⨾
     rows.loads 2 4 (omega arith) 0x0a402283 0 refl (λ h m. refl) (λ c regs even is. (even, (is, tt))) ⨾
     rows.puts 2 5 (omega arith) (c_row 5) 10 4 (λ h m. refl) (omega arith) refl ⨾
     rows.puts 2 6 (omega arith) (c_row 6) 17 19 (λ h m. refl) (omega arith) refl ⨾
     rows.signals_by 2 7 (omega arith) 0 (Number 10 4 ∷ Number 17 19 ∷ Counts 5 0 ∷ []) (λ c regs all. (all.0, all.1.0))
-      (λ c regs many even all. (omega (arith, even), tt)) ⨾
+    (λ c regs many even all. (omega (arith, even), tt)) ⨾
     rows.puts 2 8 (omega arith) (c_row 8) 10 5 (λ h m. refl) (omega arith) refl ⨾
     rows.puts 2 9 (omega arith) (c_row 9) 17 18 (λ h m. refl) (omega arith) refl ⨾
     rows.waits 2 10 (omega arith) 1 (Number 10 5 ∷ Number 17 18 ∷ []) (λ c regs all. (all.0, all.1.0))
-      (λ c regs many even all. (even, (here regs 10 0 many (omega arith), tt)))
-      (inr (λ c regs many even all. (even, (here regs 10 4294967295 many (omega arith), tt)))) ⨾
+    (λ c regs many even all. (even, (here regs 10 0 many (omega arith), tt)))
+    (inr (λ c regs many even all. (even, (here regs 10 4294967295 many (omega arith), tt)))) ⨾
     rows.jumps 2 11 (c_row 11) (back_or_on 8 12) branched_1 after_branch_1 ⨾
     rows.loads 2 12 (omega arith) 0x0a802283 1 refl (λ h m. refl) (λ c regs even is. (even, (is, tt))) ⨾
     rows.puts 2 13 (omega arith) (c_row 13) 10 4 (λ h m. refl) (omega arith) refl ⨾
     rows.puts 2 14 (omega arith) (c_row 14) 17 19 (λ h m. refl) (omega arith) refl ⨾
     rows.signals_by 2 15 (omega arith) 1 (Number 10 4 ∷ Number 17 19 ∷ Counts 5 0 ∷ []) (λ c regs all. (all.0, all.1.0))
-      (λ c regs many even all. (omega (arith, even), tt)) ⨾
+    (λ c regs many even all. (omega (arith, even), tt)) ⨾
     rows.jumps 2 16 (c_row 16) (λ f. 0) (λ f c h memory pc may. jump 96 h memory refl (omega arith) pc) consumer_again ⨾ tt

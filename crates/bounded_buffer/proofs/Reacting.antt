@@ -1,5 +1,5 @@
 -- What comes of an instruction of the current process.
-use Rattle.std.proofs.Common.{◌≡◌, ◌≢◌, ◌∙◌, ◌⊎◌, ⊎_elim, inl, inr, refl, sym, ap, subst, arith, ℕ, suc, zero, ◌+◌, ◌*◌, ◌≤◌, ◌<◌, ◌%◌, List, [], ◌∷◌, length, get_or, set, take, drop, false, true, pos}
+use Rattle.std.proofs.Common.{◌≡◌, ◌∙◌, ⊎_elim, inl, refl, sym, ap, subst, arith, ℕ, ◌<◌, List, [], ◌∷◌, length, get_or, set, take, drop, false, true}
 use Rattle.std.proofs.lemmas.List.{get_or-drop, get_or-set_other, get_or-set_same, get_or-take}
 use Rattle.std.specs.Prelude.{slice_index}
 use Rattle.scheduling_laws.proofs.Calling.{signalled_by, waited_by}
@@ -16,10 +16,10 @@ use Rattle.xinu_base.specs.declared.lines.TranscriptLine.TheVariants as line
 use Rattle.xinu_base.specs.declared.registers.Outcome.TheVariants as outcome
 use Rattle.program_logic.proofs.Answering.{after_call, asked}
 use Rattle.program_logic.proofs.Turns.{turned_same}
-use Rattle.xinu_model.specs.Tables.{process_at, semaphore_at}
+use Rattle.xinu_model.specs.Tables.{process_at}
 use Rattle.bounded_buffer.proofs.Calling.{Acts, AreTwo, Did, there_are}
 use Rattle.bounded_buffer.proofs.Creating.{by_own, items_made, room_made}
-use Rattle.bounded_buffer.proofs.Obeying.{Goes, Makes, Neither, One, Signals, Stage, Waits, held, signals, waits_on}
+use Rattle.bounded_buffer.proofs.Obeying.{Goes, Makes, Neither, One, Signals, Stage, Waits, signals, waits_on}
 use Rattle.bounded_buffer.proofs.Pairs.{thread_kept}
 use Rattle.bounded_buffer.proofs.Running.{IsPair, IsStage, IsThread}
 use Rattle.bounded_buffer.proofs.Signals.{signalled_next}

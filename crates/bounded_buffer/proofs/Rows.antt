@@ -1,5 +1,5 @@
 -- The words of the programs, kind by kind.
-use Rattle.std.proofs.Common.{◌≡◌, ◌≢◌, ◌∙◌, ℕ, suc, ◌+◌, ◌*◌, ◌%◌, ◌^◌, ◌<◌, ◌≤◌, ◌==◌, ◌&&◌, Bool, true, false, List, [], ◌∷◌, length, get_or, set, inl, inr, refl, sym, subst, arith, ap, Some, None, ⊎_elim, ◌⊎◌}
+use Rattle.std.proofs.Common.{◌≡◌, ◌∙◌, ℕ, suc, ◌+◌, ◌*◌, ◌%◌, ◌^◌, ◌<◌, true, List, [], ◌∷◌, length, get_or, set, inl, inr, refl, sym, subst, arith, ap, ⊎_elim, ◌⊎◌}
 use Rattle.std.proofs.Math.ListN.{length-set}
 use Rattle.std.specs.Prelude.{slice_index}
 use Rattle.xinu_base.specs.declared.registers.Hart.{Hart}
@@ -8,8 +8,8 @@ use Rattle.xinu_model.specs.Isa.Effects.{Executed, following}
 use Rattle.xinu_model.specs.Isa.Exec.{perform}
 use Rattle.xinu_model.specs.Memory.{number_at, with_number}
 use Rattle.bounded_buffer.specs.Buffer.{At, code, first, slot_of}
-use Rattle.bounded_buffer.specs.Places.{All, Bare, Counts, Done, Holding, Holds, Known, Number, Outside, Phase, Row, Single, bare, done, holding, known_in, no_row, outside, says, single}
-use Rattle.bounded_buffer.proofs.Knowing.{all_pass, covered, covers, each_passes, followed, follows, here, said}
+use Rattle.bounded_buffer.specs.Places.{All, Bare, Counts, Done, Holding, Known, Number, Outside, Phase, Row, Single, bare, done, holding, known_in, no_row, outside, says, single}
+use Rattle.bounded_buffer.proofs.Knowing.{all_pass, each_passes, followed, follows, here, said}
 use Rattle.bounded_buffer.proofs.Obeying.{Asks, IsObeyed, Obeys, signals, stored, waits_on}
 
 -- what comes of an instruction that gives register i a value, and of one that goes on at an address
@@ -38,8 +38,11 @@ module _ (p k : ℕ) (near : first p + 4 * suc k < 2 ^ 32) where
           tokens = refl;
           stage = refl;
           ram = inl (refl, refl);
-          holds = (may.0 ∙ e.0, said (follows i (Number i x)) (known_in f r) (known_in f (next_row p k)) c h.regs (set h.regs i x)
-              (λ xs ys t all. followed c h.regs i x (Number i x) xs ys t all (here h.regs i x regs few)) (e.1 f) may.1);
+          holds = (
+            may.0 ∙ e.0,
+            said (follows i (Number i x)) (known_in f r) (known_in f (next_row p k)) c h.regs (set h.regs i x)
+                (λ xs ys t all. followed c h.regs i x (Number i x) xs ys t all (here h.regs i x regs few)) (e.1 f) may.1,
+          );
         }));
   }
 

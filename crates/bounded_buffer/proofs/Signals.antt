@@ -1,5 +1,5 @@
 -- `signal`: a token is there, or the other process gets it.
-use Rattle.std.proofs.Common.{◌≡◌, ◌≢◌, ◌∙◌, ⊎_elim, inl, inr, refl, sym, ap, subst, arith, ℕ, suc, zero, ◌+◌, ◌≤◌, ◌<◌, ◌&&◌, ◌==◌, ◌++◌, List, [], ◌∷◌, length, get_or, set, Bool, true, false, pos}
+use Rattle.std.proofs.Common.{◌≡◌, ◌≢◌, ◌∙◌, ⊎_elim, inl, inr, refl, sym, ap, subst, arith, ℕ, suc, zero, ◌+◌, ◌≤◌, ◌<◌, ◌&&◌, ◌==◌, ◌++◌, List, [], ◌∷◌, length, get_or, set, Bool, true, pos}
 use Rattle.std.proofs.Math.ListN.{length-set}
 use Rattle.std.proofs.lemmas.Bool.{and_from, both_ways, cond_both, eq-eqb, ne_eqb}
 use Rattle.std.proofs.lemmas.Int.{ints}
@@ -16,7 +16,7 @@ use Rattle.xinu_base.specs.Constants.{OK}
 use Rattle.xinu_base.specs.declared.processes.Rest.TheVariants.{Nothing}
 use Rattle.xinu_base.specs.declared.processes.State.{State}
 use Rattle.xinu_base.specs.declared.processes.State.TheVariants.{Current, Ready, Waiting}
-use Rattle.xinu_model.specs.Machine.{CallResult, Xinu, end_of_event, no_hart, ready_later, refused, reply_at_unblock, returns, start, with_reply}
+use Rattle.xinu_model.specs.Machine.{CallResult, Xinu, end_of_event, no_hart, ready_later, refused, reply_at_unblock, returns, start}
 use Rattle.xinu_model.specs.Process.Scheduling.{in_state, ready, resched}
 use Rattle.xinu_model.specs.Semaphores.Calls.{signal}
 use Rattle.xinu_model.specs.Semaphores.Counts.{count_of, is_good, is_images, most_tokens, with_tokens}
@@ -24,7 +24,7 @@ use Rattle.xinu_model.specs.Semaphores.Waiting.{signal_first, signalled}
 use Rattle.xinu_model.specs.Sound.Tables.{CanRun, IsInside, count_in}
 use Rattle.xinu_model.specs.Tables.{InReady, Semaphore, message_at, no_semaphore, process_at, semaphore_at, semaphore_without, state_at}
 use Rattle.program_logic.proofs.Answering.{after_call, asked, call_line, given}
-use Rattle.program_logic.proofs.Replies.{two_his, two_mine, two_other}
+use Rattle.program_logic.proofs.Replies.{two_his, two_mine}
 use Rattle.program_logic.proofs.Threads.{free_kept}
 use Rattle.program_logic.proofs.Turns.{Turned, turned_resched, turned_same, turns_resched}
 use Rattle.bounded_buffer.proofs.Calling.{Acts, Did, answered, mine, there_are}

@@ -1,5 +1,5 @@
 -- The slots of the buffer in RAM: a store in one leaves the other, and the programs, as they are.
-use Rattle.std.proofs.Common.{◌≡◌, ◌≢◌, ◌∙◌, ◌⊎◌, ⊎_elim, inl, inr, refl, sym, ap, arith, ℕ, zero, suc, ◌+◌, ◌-◌, ◌*◌, ◌%◌, ◌^◌, ◌≤◌, ◌<◌, ◌++◌, List, length, length-append, take, drop}
+use Rattle.std.proofs.Common.{◌≡◌, ◌∙◌, ◌⊎◌, inl, inr, refl, ap, arith, ℕ, zero, suc, ◌+◌, ◌-◌, ◌*◌, ◌%◌, ◌^◌, ◌≤◌, ◌++◌, List, length, length-append, take, drop}
 use Rattle.std.proofs.lemmas.List.{get_or-append_right, get_or-drop, length-take-le}
 use Rattle.std.specs.Int.{bytes_low_first}
 use Rattle.std.specs.Prelude.{slice_index}

@@ -1,5 +1,5 @@
 -- The machine starts with the two programs: they run, and nothing was put or taken yet.
-use Rattle.std.proofs.Common.{◌≡◌, ◌≢◌, ◌∙◌, ◌⊎◌, ⊎_elim, inl, inr, refl, sym, ap, subst, arith, ℕ, suc, zero, ◌+◌, ◌*◌, ◌≤◌, ◌<◌, ◌++◌, List, [], ◌∷◌, length, get_or, Option, Some, None, true}
+use Rattle.std.proofs.Common.{◌≡◌, ◌≢◌, ◌∙◌, ⊎_elim, inl, inr, refl, sym, ap, subst, arith, ℕ, suc, zero, ◌+◌, ◌≤◌, List, [], ◌∷◌, Option, Some, None}
 use Rattle.part_laws.specs.GivenDisks.{AreSoundDisks}
 use Rattle.table_laws.proofs.Frame.MoveTo.{owner_move}
 use Rattle.table_laws.proofs.Tables.Starts.{all_are_made, boots_from, made_on_stack, none_made, same_everywhere, sound_all_ready}
@@ -13,7 +13,7 @@ use Rattle.xinu_model.specs.Memory.{zeros}
 use Rattle.xinu_model.specs.Process.Creation.{stack_size}
 use Rattle.xinu_model.specs.Process.Scheduling.{in_state, ready, resched}
 use Rattle.xinu_model.specs.Sound.Tables.{CanRun, IsInside}
-use Rattle.xinu_model.specs.Tables.{InReady, Nowhere, Semaphore, Tables, message_at, no_process, process_at, semaphore_at, state_at}
+use Rattle.xinu_model.specs.Tables.{InReady, Nowhere, Semaphore, message_at, no_process, process_at, state_at}
 use Rattle.program_logic.proofs.Threads.{free_kept}
 use Rattle.program_logic.proofs.Turns.{Turned, turns_resched}
 use Rattle.program_logic.specs.Images.{Lie}

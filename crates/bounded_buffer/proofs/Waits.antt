@@ -1,5 +1,5 @@
 -- `wait`: a token is taken, or waited for; while the semaphore is not made the call is refused.
-use Rattle.std.proofs.Common.{◌≡◌, ◌≢◌, ◌∙◌, ⊎_elim, inl, inr, refl, sym, ap, subst, arith, ℕ, suc, zero, ◌+◌, ◌≤◌, ◌<◌, List, get_or, set, true, false}
+use Rattle.std.proofs.Common.{◌≡◌, ◌≢◌, ◌∙◌, ⊎_elim, inl, inr, refl, sym, ap, subst, arith, ℕ, suc, zero, List, get_or, set, true, false}
 use Rattle.std.proofs.lemmas.Bool.{cond_both}
 use Rattle.std.proofs.lemmas.List.{get_or-set_other, get_or-set_same}
 use Rattle.scheduling_laws.proofs.Counts.{semaphore_resched}
@@ -23,11 +23,11 @@ use Rattle.program_logic.proofs.Answering.{after_call, asked, call_line}
 use Rattle.program_logic.proofs.Threads.{free_kept}
 use Rattle.program_logic.proofs.Turns.{Turned, turned_resched, turned_same, turns_resched}
 use Rattle.bounded_buffer.proofs.Calling.{Acts, Did, answered, there_are}
-use Rattle.bounded_buffer.proofs.Obeying.{Stage, held}
+use Rattle.bounded_buffer.proofs.Obeying.{Stage}
 use Rattle.bounded_buffer.proofs.Pairs.{semaphore_kept, stage_kept, thread_kept}
 use Rattle.bounded_buffer.proofs.Running.{IsSemaphore, IsStage, IsThread}
 use Rattle.bounded_buffer.specs.Buffer.{At}
-use Rattle.bounded_buffer.specs.Places.{Done, Holding, Outside, Phase}
+use Rattle.bounded_buffer.specs.Places.{Holding, Outside, Phase}
 
 module _ {q a b n m : ℕ} {g : Phase} {i j k : ℕ} {s : Xinu} (at : Phase → Phase → Stage) (steady : at Holding g ≡ at Outside g)
     (c : Acts q a b n m (at Outside g) Outside g i j k s) where
