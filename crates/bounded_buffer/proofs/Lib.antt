@@ -12,6 +12,7 @@ pub mod Rows
 pub mod Running
 pub mod Signals
 pub mod Slots
+pub mod Sourced
 pub mod Starting
 pub mod Stepping
 pub mod Waits

@@ -1,3 +1,4 @@
 pub mod Buffer
 pub mod Places
+pub mod Sources
 pub mod Statement

@@ -1,15 +1,24 @@
 //! What is proved of the producer and the consumer.
 
-ghost use Rattle.std.specs.Prelude.{◌≡◌, List};
-ghost use Rattle.bounded_buffer.specs.Buffer.{buffer_images};
+ghost use Rattle.std.specs.Prelude.{◌≡◌, ◌∷◌, ◌++◌, [], List};
+ghost use Rattle.bounded_buffer.specs.Buffer.{buffer_images, consumer, producer};
+ghost use Rattle.bounded_buffer.specs.Places.{words_in};
+ghost use Rattle.bounded_buffer.specs.Sources.{IsSourceOf, consumer_text, producer_text};
 ghost use Rattle.bounded_buffer.specs.Statement.{IsInOrder, put_in, puts_told, taken_in, takes_told};
 ghost use Rattle.part_laws.specs.GivenDisks.{AreSoundDisks};
+ghost use Rattle.program_logic.specs.Images.{image_of};
 ghost use Rattle.scheduling_laws.specs.Moments.{LeadTo, Moment};
 ghost use Rattle.xinu_base.specs.declared.events.Event.{Event};
 ghost use Rattle.xinu_base.specs.declared.lines.TranscriptLine.{TranscriptLine};
 ghost use Rattle.xinu_model.specs.Boot.{Boots, Disks, boot_on};
 ghost use Rattle.xinu_model.specs.Machine.{Xinu};
 ghost use Rattle.xinu_model.specs.Runs.{IsTranscript};
+
+/// The images are what the assembler makes of two texts.
+pub fn the_texts_make_the_images()
+    ensures producer { IsSourceOf producer_text (image_of 0 (words_in producer)) }
+    ensures consumer { IsSourceOf consumer_text (image_of 96 (words_in consumer ++ 0 ∷ 0 ∷ [])) }
+{}
 
 /// The programs boot, on any disks.
 pub fn the_programs_boot()
