@@ -1,6 +1,7 @@
 pub mod Acting
 pub mod Calling
 pub mod Creating
+pub mod Ending
 pub mod Idle
 pub mod Knowing
 pub mod Obeying

@@ -69,7 +69,7 @@ after_load pc k is loaded = by (or_cases (nat_le 116 pc && nat_lt pc 128) (nat_l
 
 -- ---- a state
 
-lives : (p : ℕ) (f : Phase) (k c : ℕ) (regs : List ℕ) (state : State) → Stands p f k c regs state → state ≢ Free
+pub lives : (p : ℕ) (f : Phase) (k c : ℕ) (regs : List ℕ) (state : State) → Stands p f k c regs state → state ≢ Free
 lives p f k c regs state (inl (can, at)) free = ⊎_elim (λ (e : state ≡ Current). absurd (cc)) (λ (e : state ≡ Ready). absurd (cc)) can
 lives p f k c regs state (inr (waits, rest)) free = absurd (cc)
 
@@ -122,14 +122,18 @@ lie_first memory a (w ∷ words) more lie = (lie.0, (lie.1.0, lie_first memory (
 abbrev pieces : List Piece
 pieces = record { place = 0; words = words_in producer } ∷ record { place = 96; words = words_in consumer ++ 0 ∷ 0 ∷ [] } ∷ []
 
+-- The two run from boot on.
+pub begins : (disks : Disks) (start : Xinu) → AreSoundDisks disks → boot_on disks buffer_images ≡ Boots start → Runs Bare Outside 0 0 start
+begins disks start sound boots =
+    let lie = pieces_lie pieces refl in
+    boots_running (image_of 0 (words_in producer)) (image_of 96 (words_in consumer ++ 0 ∷ 0 ∷ [])) disks start refl refl lie.0
+    (lie_first (with_images buffer_images zeros) 96 (words_in consumer) (0 ∷ 0 ∷ []) lie.1.0) sound boots
+
 -- At each moment the items are in order,
 pub always_in_order : (disks : Disks) (start now : Xinu) (ms : List Moment) → AreSoundDisks disks → boot_on disks buffer_images ≡ Boots start → LeadTo start ms now
     → IsInOrder (put_in ms) (taken_in ms) now
 always_in_order disks start now ms sound boots lead =
-    let lie = pieces_lie pieces refl in
-    let r = boots_running (image_of 0 (words_in producer)) (image_of 96 (words_in consumer ++ 0 ∷ 0 ∷ [])) disks start refl refl lie.0
-    (lie_first (with_images buffer_images zeros) 96 (words_in consumer) (0 ∷ 0 ∷ []) lie.1.0) sound boots in
-    let on = run_on Bare Outside 0 0 ms start now r lead in
+    let on = run_on Bare Outside 0 0 ms start now (begins disks start sound boots) lead in
     let a : 0 + put_in ms ≡ put_in ms = omega arith in
     let b : 0 + taken_in ms ≡ taken_in ms = omega arith in
     in_order on.own on.their (put_in ms) (taken_in ms) now

@@ -1,5 +1,5 @@
 -- One event: the programs run on, and all that is said of their places holds.
-use Rattle.std.proofs.Common.{◌≡◌, ◌≢◌, ◌∙◌, refl, sym, ap, subst, arith, ℕ, suc, zero, ◌+◌, ◌%◌, ◌^◌, ◌==◌, List, [], get_or, cond, None}
+use Rattle.std.proofs.Common.{false, ◌≡◌, ◌≢◌, ◌∙◌, refl, sym, ap, subst, arith, ℕ, suc, zero, ◌+◌, ◌%◌, ◌^◌, ◌==◌, List, [], get_or, cond, None}
 use Rattle.std.proofs.lemmas.Bool.{cond_both, eqb-false}
 use Rattle.scheduling_laws.specs.Moments.{call_in}
 use Rattle.scheduling_laws.specs.Tokens.{is_made}
@@ -91,12 +91,13 @@ record Comes (i j : ℕ) (e : Event) (x : EventResult) : Type 0 where
   is_put : put ≡ i + signalled_in 5 e x.lines
   is_taken : taken ≡ j + signalled_in 4 e x.lines
   running : AreRunning own their put taken x.state
+  calm : x.panics ≡ false
 
 step_comes : (f g : Phase) (i j choice : ℕ) (s : Xinu) → Runs f g i j s → Comes i j Step (step_with choice (next_file_call s) s)
 step_comes f g i j choice s r =
     let next = stepped_next r in
     subst (Comes i j Step) (sym (ap (λ o. step_with choice o s) (no_file_call r) ∙ step_same choice s))
-    (record { own = next.own; their = next.their; put = next.put; taken = next.taken; is_put = next.is_put; is_taken = next.is_taken; running = next.running })
+    (record { own = next.own; their = next.their; put = next.put; taken = next.taken; is_put = next.is_put; is_taken = next.is_taken; running = next.running; calm = next.calm })
 
 other_comes : (f g : Phase) (i j : ℕ) (e : Event) (choice : ℕ) (s : Xinu) → Runs f g i j s → e ≢ Step → e ≢ Tick
     → call_in e (effect_of s e choice).lines ≡ None → Comes i j e (effect_of s e choice)
@@ -112,12 +113,13 @@ other_comes f g i j e choice s r other off none =
       is_put = omega (arith, no_put);
       is_taken = omega (arith, no_taken);
       running = idle_runs r (effect_of s e choice).state x.idle;
+      calm = x.calm;
     }
 
 event_comes : (f g : Phase) (i j : ℕ) (e : Event) (choice : ℕ) (s : Xinu) → Runs f g i j s → Comes i j e (effect_of s e choice)
 event_comes f g i j Step choice s r = step_comes f g i j choice s r
 event_comes f g i j Tick choice s r =
-    record { own = f; their = g; put = i; taken = j; is_put = omega arith; is_taken = omega arith; running = idle_runs r (effect_of s Tick choice).state (tick_idle r) }
+    record { own = f; their = g; put = i; taken = j; is_put = omega arith; is_taken = omega arith; running = idle_runs r (effect_of s Tick choice).state (tick_idle r); calm = refl }
 event_comes f g i j (Key b) choice s r = other_comes f g i j (Key b) choice s r (λ e. absurd (cc)) (λ e. absurd (cc)) refl
 event_comes f g i j Tx choice s r = other_comes f g i j Tx choice s r (λ e. absurd (cc)) (λ e. absurd (cc)) refl
 event_comes f g i j Disk0 choice s r = other_comes f g i j Disk0 choice s r (λ e. absurd (cc)) (λ e. absurd (cc)) refl
@@ -146,3 +148,7 @@ event_runs f g i j old e lines new r h =
         running = subst (λ n. AreRunning c.own c.their (i + signalled_in 5 e x.lines) n x.state) c.is_taken (subst (λ n. AreRunning c.own c.their n c.taken x.state) c.is_put c.running);
       };
     })
+
+-- The kernel doesn't panic.
+pub event_calm : (f g : Phase) (i j : ℕ) (s : Xinu) (e : Event) → Runs f g i j s → (effect_of s e 0).panics ≡ false
+event_calm f g i j s e r = (event_comes f g i j e 0 s r).calm

@@ -8,11 +8,13 @@ ghost use Rattle.bounded_buffer.specs.Statement.{IsInOrder, put_in, puts_told, t
 ghost use Rattle.part_laws.specs.GivenDisks.{AreSoundDisks};
 ghost use Rattle.program_logic.specs.Images.{image_of};
 ghost use Rattle.scheduling_laws.specs.Moments.{LeadTo, Moment};
+ghost use Rattle.xinu_base.specs.declared.events.End.{End};
+ghost use Rattle.xinu_base.specs.declared.events.End.TheVariants.{Schedule};
 ghost use Rattle.xinu_base.specs.declared.events.Event.{Event};
 ghost use Rattle.xinu_base.specs.declared.lines.TranscriptLine.{TranscriptLine};
 ghost use Rattle.xinu_model.specs.Boot.{Boots, Disks, boot_on};
 ghost use Rattle.xinu_model.specs.Machine.{Xinu};
-ghost use Rattle.xinu_model.specs.Runs.{IsTranscript};
+ghost use Rattle.xinu_model.specs.Runs.{IsTranscript, RunsTo};
 
 /// The images are what the assembler makes of two texts.
 pub fn the_texts_make_the_images()
@@ -33,4 +35,10 @@ pub fn no_item_is_lost()
         LeadTo start ms now → IsInOrder (put_in ms) (taken_in ms) now }
     ensures transcript { (disks : Disks) (events : List Event) (last : Xinu) (all : List TranscriptLine) → AreSoundDisks disks →
         IsTranscript disks buffer_images events last all → IsInOrder (puts_told all) (takes_told all) last }
+{}
+
+/// A run of the two takes all its events: it ends with its schedule.
+pub fn both_go_on()
+    ensures end { (disks : Disks) (start last : Xinu) (events : List Event) (lines : List TranscriptLine) (end : End) → AreSoundDisks disks →
+        boot_on disks buffer_images ≡ Boots start → RunsTo start events lines last end → end ≡ Schedule }
 {}

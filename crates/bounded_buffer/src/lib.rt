@@ -9,6 +9,7 @@
 //! | [`laws::the_texts_make_the_images`] | the assembler makes the two images of two texts |
 //! | [`laws::the_programs_boot`] | the programs boot, on any disks: what is said of their runs is said of some |
 //! | [`laws::no_item_is_lost`] | at each moment of each run no item is lost, doubled or out of order, at most two are in the buffer, and both processes are alive; so it is by the lines of a transcript |
+//! | [`laws::both_go_on`] | a run takes all its events |
 #![tactic(auto)]
 
 pub mod laws;
