@@ -11,44 +11,44 @@ text_of (line ∷ lines) = line ++ 10 ∷ text_of lines
 
 abbrev pub producer_text : List ℕ
 producer_text = text_of (
-  codes "        addi a0, zero, 2" ∷
-  codes "        sys  semcreate" ∷
-  codes "        addi a0, zero, 0" ∷
-  codes "        sys  semcreate" ∷
-  codes "again:  addi a0, zero, 4" ∷
-  codes "        sys  wait" ∷
-  codes "        sw   s0, 164(zero)" ∷
-  codes "        addi s0, s0, 1" ∷
-  codes "        addi a0, zero, 5" ∷
-  codes "        sys  signal" ∷
-  codes "        addi a0, zero, 4" ∷
-  codes "        sys  wait" ∷
-  codes "        sw   s0, 168(zero)" ∷
-  codes "        addi s0, s0, 1" ∷
-  codes "        addi a0, zero, 5" ∷
-  codes "        sys  signal" ∷
-  codes "        j    again" ∷
-  [])
+    codes "        addi a0, zero, 2" ∷
+    codes "        sys  semcreate" ∷
+    codes "        addi a0, zero, 0" ∷
+    codes "        sys  semcreate" ∷
+    codes "again:  addi a0, zero, 4" ∷
+    codes "        sys  wait" ∷
+    codes "        sw   s0, 164(zero)" ∷
+    codes "        addi s0, s0, 1" ∷
+    codes "        addi a0, zero, 5" ∷
+    codes "        sys  signal" ∷
+    codes "        addi a0, zero, 4" ∷
+    codes "        sys  wait" ∷
+    codes "        sw   s0, 168(zero)" ∷
+    codes "        addi s0, s0, 1" ∷
+    codes "        addi a0, zero, 5" ∷
+    codes "        sys  signal" ∷
+    codes "        j    again" ∷
+    [])
 
 abbrev pub consumer_text : List ℕ
 consumer_text = text_of (
-  codes "        .place 96" ∷
-  codes "first:  addi a0, zero, 5" ∷
-  codes "        sys  wait" ∷
-  codes "        bne  a0, zero, first" ∷
-  codes "        lw   t0, 164(zero)" ∷
-  codes "        addi a0, zero, 4" ∷
-  codes "        sys  signal" ∷
-  codes "second: addi a0, zero, 5" ∷
-  codes "        sys  wait" ∷
-  codes "        bne  a0, zero, second" ∷
-  codes "        lw   t0, 168(zero)" ∷
-  codes "        addi a0, zero, 4" ∷
-  codes "        sys  signal" ∷
-  codes "        j    first" ∷
-  codes "slots:  .word 0" ∷
-  codes "        .word 0" ∷
-  [])
+    codes "        .place 96" ∷
+    codes "first:  addi a0, zero, 5" ∷
+    codes "        sys  wait" ∷
+    codes "        bne  a0, zero, first" ∷
+    codes "        lw   t0, 164(zero)" ∷
+    codes "        addi a0, zero, 4" ∷
+    codes "        sys  signal" ∷
+    codes "second: addi a0, zero, 5" ∷
+    codes "        sys  wait" ∷
+    codes "        bne  a0, zero, second" ∷
+    codes "        lw   t0, 168(zero)" ∷
+    codes "        addi a0, zero, 4" ∷
+    codes "        sys  signal" ∷
+    codes "        j    first" ∷
+    codes "slots:  .word 0" ∷
+    codes "        .word 0" ∷
+    [])
 
 -- A text is assembled to a file that loads an image.
 pub record IsSourceOf (text : List ℕ) (image : Loaded) : Type 0 where
