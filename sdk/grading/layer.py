@@ -16,6 +16,7 @@ from .taking import take_files
 SECONDS = 1200  # for a check; the first one proves the layer too, for minutes
 WRONG_BODIES = {"give": "        false", "number_of": "    None"}
 ENSURES = re.compile(r"^ +ensures (\w+) \{.*\}$", re.M)
+PROVED = re.compile(r"^fn pool::pool::(?:Pool::)?(\w+): proved$", re.M)
 
 
 class Repository:
@@ -40,20 +41,25 @@ class Repository:
             subprocess.run(["make", "-s", "-C", self.lab, "start", f"PLACE={made}"], check=True, stdout=subprocess.DEVNULL)
             os.rename(made, self.place)
 
-    def checked(self, source, only=None):
-        """Whether `rt` proves a source, and what it prints if all was proved; none if the time was over."""
+    def rt(self, verb, source):
+        """What `rt` says of a source; none if the time was over."""
         pool = os.path.join(self.place, "crates", "pool")
         with open(os.path.join(pool, "src", "pool.rt"), "w", encoding="utf-8") as file:
             file.write(source)
         try:
-            words = ["rt", "check", *(["--only", only] if only else [])]
-            proved = subprocess.run(words, cwd=pool, timeout=SECONDS, capture_output=True).returncode == 0
-            if not proved or only:
-                return proved, ""
-            ran = subprocess.run(["rt", "run"], cwd=pool, timeout=SECONDS, stdout=subprocess.PIPE, stderr=subprocess.DEVNULL)
-            return proved, ran.stdout.decode("utf-8", "replace")
+            return subprocess.run(["rt", verb], cwd=pool, timeout=SECONDS, capture_output=True, encoding="utf-8", errors="replace")
         except subprocess.TimeoutExpired:
-            return None, ""
+            return None
+
+    def run(self, source):
+        """Whether a source is proved, and what its program then prints; none if the time was over."""
+        ran = self.rt("run", source)
+        return (None, "") if ran is None else (ran.returncode == 0, ran.stdout)
+
+    def proved(self, source):
+        """The functions of a source that are proved; none if the time was over."""
+        ran = self.rt("check", source)
+        return None if ran is None else PROVED.findall(ran.stdout)
 
 
 def sum_of(lab):
@@ -96,10 +102,12 @@ def contract(text, name):
     return found and [line.strip() for line in found[0].splitlines()[:-1]]
 
 
-def with_body(text, name, body):
-    """The text with another body of a function."""
-    whole = re.compile(rf"(^( *)(?:pub\(crate\) )?fn {name}\(.*?^\2\{{\n).*?(^\2\}}$)", re.M | re.S)
-    return whole.sub(lambda found: f"{found[1]}{body}\n{found[3]}", text, count=1)
+def with_bodies(text, bodies):
+    """The text with other bodies of some functions."""
+    for name, body in bodies.items():
+        whole = re.compile(rf"(^( *)(?:pub\(crate\) )?fn {name}\(.*?^\2\{{\n).*?(^\2\}}$)", re.M | re.S)
+        text = whole.sub(lambda found: f"{found[1]}{body}\n{found[3]}", text, count=1)
+    return text
 
 
 def changed_contracts(given, text):
@@ -117,11 +125,13 @@ def judged(given, text, wanted, place):
     yield not changed, f"the contract of {', '.join(changed) or 'a function'} isn't the given one with further clauses, each on a line"
     if changed:
         return
-    proved, printed = place.checked(text)
+    proved, printed = place.run(text)
     yield bool(proved), "it isn't proved" if proved is not None else f"rt takes more than {SECONDS} s"
     yield bool(proved) and printed == wanted, "the program prints another text than wanted.txt"
+    # no wrong body calls another, so one check tries all
+    still = place.proved(with_bodies(text, WRONG_BODIES)) if proved else None
     for name, body in WRONG_BODIES.items():
-        refused = bool(proved) and place.checked(with_body(text, name, body), name)[0] is False
+        refused = still is not None and name not in still
         yield refused, f"a wrong body of {name} ({body.strip()}) isn't refused by its contract"
 
 
