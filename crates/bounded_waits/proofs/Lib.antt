@@ -1,0 +1,12 @@
+pub mod Bound
+pub mod Comings
+pub mod Costs
+pub mod DiskEvents
+pub mod FileEvents
+pub mod Goes
+pub mod Kept
+pub mod Places
+pub mod Rests
+pub mod Returns
+pub mod Runs
+pub mod Served
