@@ -10,3 +10,6 @@ pub mod Rests
 pub mod Returns
 pub mod Runs
 pub mod Served
+pub mod Stays
+pub mod Steps
+pub mod Waiting

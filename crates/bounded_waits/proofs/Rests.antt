@@ -4,11 +4,11 @@ use Rattle.std.proofs.lemmas.Bool.{cond_both}
 use Rattle.xinu_base.specs.declared.processes.Process.{Process}
 use Rattle.xinu_base.specs.declared.processes.State.TheVariants.{Current, Ready}
 use Rattle.xinu_model.specs.Machine.{CallResult, closed, is_off}
-use Rattle.xinu_model.specs.Process.Scheduling.{is_current, in_state, ready, dispatch_first, preempt, keeps_cpu, resched}
+use Rattle.xinu_model.specs.Process.Scheduling.{is_current, in_state, ready, ready_all, dispatch_first, preempt, keeps_cpu, resched}
 use Rattle.xinu_model.specs.Tables.{no_process, Tables, process_at, state_at, message_at, Place, Nowhere, InReady, move_to}
 
 -- one entry is replaced, in which the same is left
-rest_set : (l : List Process) (q p : ℕ) (x : Process) → x.rest ≡ (get_or l q no_process).rest
+pub rest_set : (l : List Process) (q p : ℕ) (x : Process) → x.rest ≡ (get_or l q no_process).rest
     → (get_or (set l q x) p no_process).rest ≡ (get_or l p no_process).rest
 rest_set [] q p x e = refl
 rest_set (y ∷ l) zero zero x e = e
@@ -17,10 +17,10 @@ rest_set (y ∷ l) (suc q) zero x e = refl
 rest_set (y ∷ l) (suc q) (suc p) x e = rest_set l q p x e
 
 -- From t to u each process has the same left of its call.
-abbrev SameRests : Tables → Tables → Type 0
+abbrev pub SameRests : Tables → Tables → Type 0
 SameRests t u = (p : ℕ) → (process_at u p).rest ≡ (process_at t p).rest
 
-rests_move : (t : Tables) (q : ℕ) (x : Process) (m : Option ℕ) (place : Place) → x.rest ≡ (process_at t q).rest → SameRests t (move_to q x m place t)
+pub rests_move : (t : Tables) (q : ℕ) (x : Process) (m : Option ℕ) (place : Place) → x.rest ≡ (process_at t q).rest → SameRests t (move_to q x m place t)
 rests_move t q x m place e p = rest_set t.processes q p x e
 
 rests_preempt : (t : Tables) → SameRests t (preempt t)
@@ -34,13 +34,19 @@ rests_first [] t p = refl
 rests_first (e ∷ l) t p =
     rests_move (record t { current = e.0; quantum = 2 }) e.0 (in_state Current (process_at t e.0)) (message_at t e.0) Nowhere refl p
 
-rests_resched : (t : Tables) → SameRests t (resched t)
+pub rests_resched : (t : Tables) → SameRests t (resched t)
 rests_resched t =
     let u = preempt t in
     cond_both (keeps_cpu t.ready t) t (dispatch_first u.ready u) (SameRests t) (λ _ p. refl)
     (λ _ p. rests_first u.ready u p ∙ rests_preempt t p)
 
--- So the end of an event leaves what is left of each call.
+-- So do those who become ready, one after another,
+pub rests_ready : (ps : List ℕ) (t : Tables) → SameRests t (ready_all ps t)
+rests_ready [] t p = refl
+rests_ready (q ∷ ps) t p =
+    rests_ready ps (ready q t) p ∙ rests_move t q (in_state Ready (process_at t q)) (message_at t q) InReady refl p
+
+-- and the end of an event leaves what is left of each call.
 pub rests_closed : (h : CallResult) → SameRests h.call.state.tables (closed h)
 rests_closed h =
     let t = h.call.state.tables in
