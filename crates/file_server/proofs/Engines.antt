@@ -13,7 +13,7 @@ use Rattle.xinu_model.specs.Files.Calls as model
 use Rattle.xinu_model.specs.Files.Work.{most_turns}
 use Rattle.local_files.specs.Bounds.{left}
 use Rattle.local_files.specs.Hands.{system}
-use Rattle.local_files.specs.Resting.{WillBeRefused}
+use Rattle.local_files.specs.Resting.{OnlyReads, WillBeRefused}
 use Rattle.xinu_base.specs.Constants.{SYSERR}
 use Rattle.local_files.specs.Standing.{Stands, InHand, GoesTo, HasEffect, wanted_in, wanted, call_of, call_bytes, gathered, reply_in, taken_in}
 
@@ -133,6 +133,11 @@ held_refused e base h is refused =
     let held = held_is (wanted e) e base h is in
     ap (λ k. (model.file_effect k (call_bytes e) (system e base)).reply) held.call
     ∙ ap (λ b. (model.file_effect h.call b (system e base)).reply) held.bytes ∙ refused
+
+-- if that writes no file, neither does the call of the engine
+pub held_reads : (e : Files) (base : List ℕ) (h : HeldCall) → held_for (wanted e) e base ≡ Some h → OnlyReads h.call (system e base)
+    → OnlyReads (call_of e.call (call_bytes e)) (system e base)
+held_reads e base h is reads = subst (λ k. OnlyReads k (system e base)) (sym (held_is (wanted e) e base h is).call) reads
 
 -- It waits: with its bytes, and with a completion left.
 waits : (call : FileCall) (bytes : List ℕ) (most : ℕ) (e f g : Files) (base disk disk' : List ℕ) → g ≡ f

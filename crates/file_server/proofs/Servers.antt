@@ -19,7 +19,7 @@ use Rattle.xinu_model.specs.Files.Rest.{are_calls}
 use Rattle.xinu_model.specs.Files.Systems.{FileSystem, FileEffect}
 use Rattle.xinu_model.specs.Files.Work.{FileRequest, FileWork, FileNote, FileStep, copied, first_effect, had_turn, least_effects, most_turns, next_effects, took_effect, with_first}
 use Rattle.xinu_model.specs.Memory.{in_ram}
-use Rattle.local_files.specs.Resting.{ChangesOneBlock, ServesDisk}
+use Rattle.local_files.specs.Resting.{ChangesOneBlock, OnlyReads, ServesDisk}
 use Rattle.xinu_base.specs.Constants.{SYSERR}
 use Rattle.xinu_model.proofs.FileOutcomes.{one_at_most}
 
@@ -137,10 +137,12 @@ some_listed (x ∷ items) busy = omega arith
 pub serves : (d : DiskState) (r : declared_request.FileRequest) (rest : List declared_request.FileRequest) (turns : ℕ) (new : List ℕ)
     → IsFirstOf d (request_of r) turns → ChangesOneBlock d.image new
     → ((h : HeldCall) → d.hand ≡ Some h → (file_effect h.call h.bytes d.system).reply ≡ SYSERR → new ≡ d.image)
+    → ((h : HeldCall) → d.hand ≡ Some h → OnlyReads h.call d.system → new ≡ d.image)
     → ServesDisk (work_of d (r ∷ rest) turns) d.image new
-serves d r rest turns new first one still = record {
+serves d r rest turns new first one still reads = record {
   one = one;
   still = λ refused. (let h = first.held in still h first.is
       (ap (λ k. (file_effect k h.bytes d.system).reply) (sym first.under.call)
       ∙ ap (λ o. (file_effect (request_of r).call (bytes_held o) d.system).reply) (sym first.is) ∙ refused));
+  reads = λ only. reads first.held first.is (subst (λ k. OnlyReads k d.system) first.under.call only);
 }

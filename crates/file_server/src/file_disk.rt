@@ -9,7 +9,7 @@ ghost use Rattle.given_disks.specs.HeldFiles.{HoldsFiles};
 ghost use Rattle.lfs_check.specs.Disks.{block_put};
 ghost use Rattle.local_files.specs.Bounds.{left};
 ghost use Rattle.local_files.specs.Hands.{IsCall};
-ghost use Rattle.local_files.specs.Resting.{ChangesOneBlock, IsOnDisk};
+ghost use Rattle.local_files.specs.Resting.{ChangesOneBlock, IsOnDisk, OnlyReads};
 ghost use Rattle.local_files.specs.Standing.{Stands, GoesTo, wanted, served, call_of, call_bytes, given_bytes};
 ghost use Rattle.xinu_base.specs.Constants.{SYSERR};
 ghost use Rattle.xinu_model.specs.Files.Calls.{file_effect};
@@ -99,18 +99,20 @@ impl FileDisk {
         self.files.answer()
     }
 
-    // One good completion of the call that waits: it has its reply, or it waits on, with fewer completions left. One that will be refused leaves
-    // the disk as it is.
+    // One good completion of the call that waits: it has its reply, or it waits on, with fewer completions left. One that will be refused, or that
+    // writes no file, leaves the disk as it is.
     pub(crate) fn complete(&mut self) -> Option<i32>
         requires busy { IsSome self.old.hand }
         ensures goes { (h : HeldCall) → self.old.hand ≡ Some h → MatchOption result
             (Waits h.call h.bytes (h.left - 1) self.old self.new) (λ reply. IsDone h.call h.bytes reply self.old self.new) }
         ensures image { ChangesOneBlock self.old.image self.new.image }
         ensures still { (h : HeldCall) → self.old.hand ≡ Some h → (file_effect h.call h.bytes self.old.system).reply ≡ SYSERR → self.new.image ≡ self.old.image }
+        ensures reads { (h : HeldCall) → self.old.hand ≡ Some h → OnlyReads h.call self.old.system → self.new.image ≡ self.old.image }
     {
         self.files.wants_a_block_of_the_disk();
         self.files.changes_one_block();
         self.files.leaves_the_disk_if_refused();
+        self.files.leaves_the_disk_if_it_reads();
         note_write(&mut self.written, &self.files);
         serve(&mut self.files, &mut self.disk);
         self.files.has_a_completion_left();

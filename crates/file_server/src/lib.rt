@@ -8,7 +8,7 @@
 //! |---|---|---|
 //! | `new` | | `starts`: the files of the image, none of them open, and no call; `image`: its bytes; or `NoMemory`. It takes a buffer of 1 MiB and a copy of the disk, and no other call but `clone` takes memory |
 //! | `issue` | `room`: fewer than 64 calls are under way; `request`: its name can be one, and its bytes are in RAM | `issued`: `issued 0`, it is under way after the others, or `issued 1` with its reply, if no call was under way and it needs no block; `image`: the disk stays |
-//! | `complete` | `busy`: a call is under way | `completed`: `calls_completed` of as many calls as took effect, which are as many as the abstract machine allows, with RAM and what happened, in order; `image`: at most one block of the disk changes, and none while the first call is one that will be refused |
+//! | `complete` | `busy`: a call is under way | `completed`: `calls_completed` of as many calls as took effect, which are as many as the abstract machine allows, with RAM and what happened, in order; `image`: at most one block of the disk changes, and none while the first call is one that will be refused or writes no file |
 //! | `forget` | | `forgets`: `calls_given_up`; `image`: the disk stays |
 //! | `are_calls`, `pending` | | whether calls are under way, and how many, which are at most 64 |
 //! | `open_file`, `is_busy` | | the position and the size of an open file; whether a file is open or a call is under way |

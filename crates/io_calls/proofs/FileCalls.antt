@@ -61,4 +61,4 @@ completed_told t w memory after sound files c =
 
 -- No block changes of a disk that stays as it is.
 pub stays : (w : FileWork) {old new : List ℕ} → new ≡ old → ServesDisk w old new
-stays w e = record { one = record { block = 0; long = ap length e; others = λ m other. ap (λ image. block_in image m) e }; still = λ _. e }
+stays w e = record { one = record { block = 0; long = ap length e; others = λ m other. ap (λ image. block_in image m) e }; still = λ _. e; reads = λ _. e }

@@ -230,8 +230,8 @@ impl Kernel {
 
     /// The disk with files completes well: the first call on files has its reply, or a turn. Once it has its reply the next becomes the first,
     /// and so on as long as one needs no block. Whoever has a reply becomes ready with it, and what was read is in RAM. At most one block of the
-    /// disk changes, and none if the first call will be refused. Tells what happened, in order; nothing does if no call is under way, nor does
-    /// the disk change then.
+    /// disk changes, and none if the first call will be refused or writes no file. Tells what happened, in order; nothing does if no call is
+    /// under way, nor does the disk change then.
     pub fn on_files(&mut self) -> FileNotes
         requires idle { IsIdle self.old.came }
         ensures completes { CompletesFiles self.old.came.call.state (map note_of result.items) self.new.came }

@@ -145,6 +145,16 @@ away_from : (e : Files) (base made : List ℕ) (o : Option OpenFile) (f : OpenFi
 away_from e base made None f q m free h = (tt, tt)
 away_from e base made (Some g) f q m free h = let ne = (others_open e base made g m free h).1 in (λ z. ne (z ∙ q), λ z. ne (sym z ∙ q))
 
+-- an open that makes its file finds none of its name
+pub absent_named : (e : Files) (name : List ℕ) (mode : OpenMode) (base disk : List ℕ) → e.call ≡ Open name mode → Stands e base disk
+    → IsCreating (but_blocks e) base → file_named (bare_name name) (stored_files base) ≡ None
+absent_named e name mode base disk is s h =
+    let right : IsCall (Open name mode) = subst IsCall is h.call in
+    let n : IsName name = record { padded = name_padded 27 name right.0; long = right.1 } in
+    let none : (k : ℕ) → k < 78 → is_this name (entry_at base k) ≡ false =
+    (let P : FileCall → Type 0 = λ c. (k : ℕ) → k < 78 → is_this (name_of c) (entry_at base k) ≡ false in subst P is h.none) in
+    named_none base name s.clean n none
+
 -- an open that makes its file has its effect
 pub creates : (e : Files) (name : List ℕ) (mode : OpenMode) (base disk : List ℕ) → e.call ≡ Open name mode → Stands e base disk
     → IsCreating (but_blocks e) base
@@ -152,12 +162,8 @@ pub creates : (e : Files) (name : List ℕ) (mode : OpenMode) (base disk : List 
     (with_created (bare_name name) (system e base))
 creates e name mode base disk is s h =
     let sys : FileSystem = system e base in
-    let right : IsCall (Open name mode) = subst IsCall is h.call in
     let look : MayLook (Open name mode) sys = (let P : FileCall → Type 0 = λ k. MayLook k sys in subst P is h.look) in
-    let n : IsName name = record { padded = name_padded 27 name right.0; long = right.1 } in
-    let none : (k : ℕ) → k < 78 → is_this name (entry_at base k) ≡ false =
-    (let P : FileCall → Type 0 = λ c. (k : ℕ) → k < 78 → is_this (name_of c) (entry_at base k) ≡ false in subst P is h.none) in
-    let absent : file_named (bare_name name) (stored_files base) ≡ None = named_none base name s.clean n none in
+    let absent = absent_named e name mode base disk is s h in
     let len = (length_entries base s.clean).0 in
     let few : nat_le 78 (length (stored_files base)) ≡ false =
     (let c = files_counted base s.clean in let hs = h.slot in

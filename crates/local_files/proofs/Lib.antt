@@ -28,4 +28,5 @@ pub mod Bounds
 pub mod AtRest
 pub mod OneBlock
 pub mod Refused
+pub mod OnlyReading
 pub mod NamedFiles

@@ -1,9 +1,10 @@
 -- The files at rest, and the blocks that a completion touches.
-use Rattle.std.specs.Prelude.{ℕ, ◌≡◌, ◌≢◌, ◌<◌, Bool, true, false, List, [], ◌∷◌, length, Option, Some, None, is_some}
+use Rattle.std.specs.Prelude.{ℕ, ◌≡◌, ◌≢◌, ◌<◌, Bool, true, false, List, [], ◌∷◌, length, Option, Some, None, is_some, IsSome}
 use Rattle.lfs_check.specs.Rules.{block_in}
 use Rattle.xinu_base.specs.Constants.{SYSERR}
-use Rattle.xinu_model.specs.Files.Calls.{FileCall, file_effect}
-use Rattle.xinu_model.specs.Files.Systems.{is_open}
+use Rattle.xinu_model.specs.Files.Calls.{FileCall, Open, Close, Read, Getc, Seek, Size, file_effect}
+use Rattle.xinu_model.specs.Files.Stored.{file_named}
+use Rattle.xinu_model.specs.Files.Systems.{FileSystem, is_open}
 use Rattle.xinu_model.specs.Files.Work.{FileRequest, FileWork}
 use Rattle.xinu_model.specs.Files.Rest.{names_file}
 use Rattle.local_files.specs.Hands.{system}
@@ -43,7 +44,23 @@ abbrev pub NothingToDo : List FileRequest → FileWork → Type 0
 NothingToDo [] w = Unit {0}
 NothingToDo (a ∷ calls) w = (file_effect a.call w.bytes w.system).reply ≡ SYSERR
 
--- A good completion of the disk changes at most one block, and none if no call is under way or the first will be refused.
+-- A call that writes no file: it reads one, moves in it, tells its size or closes it, or opens one that is there.
+abbrev pub OnlyReads : FileCall → FileSystem → Type 0
+OnlyReads (Open name mode) s = IsSome (file_named name s.files)
+OnlyReads (Close d) s = Unit {0}
+OnlyReads (Read d n) s = Unit {0}
+OnlyReads (Getc d) s = Unit {0}
+OnlyReads (Seek d n) s = Unit {0}
+OnlyReads (Size d) s = Unit {0}
+OnlyReads _ s = ⊥
+
+-- the first of these calls is one
+abbrev pub FirstOnlyReads : List FileRequest → FileSystem → Type 0
+FirstOnlyReads [] s = Unit {0}
+FirstOnlyReads (a ∷ calls) s = OnlyReads a.call s
+
+-- A good completion of the disk changes at most one block, and none if no call is under way or the first will be refused or writes no file.
 pub record ServesDisk (w : FileWork) (old new : List ℕ) : Type 0 where
   pub one : ChangesOneBlock old new
   pub still : NothingToDo w.calls w → new ≡ old
+  pub reads : FirstOnlyReads w.calls w.system → new ≡ old

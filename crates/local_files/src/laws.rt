@@ -8,7 +8,7 @@ ghost use Rattle.xinu_model.specs.Files.Rest.{is_at_rest};
 ghost use Rattle.local_files.specs.Hands.{system};
 ghost use Rattle.local_files.specs.Standing.{Stands, wanted, served, call_of, call_bytes};
 ghost use Rattle.local_files.specs.Bounds.{left};
-ghost use Rattle.local_files.specs.Resting.{AreAtRest, IsFirstCall, IsOnDisk, ChangesOneBlock, WillBeRefused};
+ghost use Rattle.local_files.specs.Resting.{AreAtRest, IsFirstCall, IsOnDisk, ChangesOneBlock, OnlyReads, WillBeRefused};
 
 use crate::Files;
 
@@ -38,6 +38,12 @@ impl Files {
     pub fn leaves_the_disk_if_refused(&self)
         ensures before { (base disk : List ℕ) → Stands self.now base disk → WillBeRefused self.now base → disk ≡ base }
         ensures after { (base disk : List ℕ) → Stands self.now base disk → WillBeRefused self.now base → served self.now disk ≡ base }
+    {}
+
+    /// A call that writes no file leaves the disk as it is at each of its completions.
+    pub fn leaves_the_disk_if_it_reads(&self)
+        ensures same { (base disk : List ℕ) → Stands self.now base disk
+            → OnlyReads (call_of self.now.call (call_bytes self.now)) (system self.now base) → served self.now disk ≡ disk }
     {}
 
     /// While a block is wanted, a completion is left.

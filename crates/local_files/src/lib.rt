@@ -18,6 +18,7 @@
 //! | `holds_files_at_rest` | | a law: at each moment the disk holds the files that are neither open nor named by the call in hand |
 //! | `wants_a_block_of_the_disk`, `changes_one_block` | | laws: the block that is wanted lies on the disk, and a completion changes at most one |
 //! | `leaves_the_disk_if_refused` | | a law: a call that will be refused leaves the disk as it was when the call began, before each completion and after it |
+//! | `leaves_the_disk_if_it_reads` | | a law: a call that reads, moves, tells a size or closes, or opens a file that is there, leaves the disk as it is at each completion |
 //! | `has_a_completion_left` | | a law: while a block is wanted, a completion is left |
 //! | `stands_for_any` | `idle` | a law: with no file open the engine stands for any clean disk of its size, so nothing that it read is kept |
 //!

@@ -86,7 +86,7 @@ impl Machine {
     /// died in it. The lines say which calls on files took effect. No address comes to have two owners in it, unless a process gives back what
     /// a pool or a stack has. What always holds between two events holds after it: the disk with files holds the files of the state at rest,
     /// and is clean for exactly them if no call on files is under way. Only a good completion of that disk changes it, and at most one block of
-    /// it; and it changes nothing if no call on files is under way, or the first will be refused.
+    /// it; and it changes nothing if no call on files is under way, or the first will be refused or writes no file.
     pub fn event<H: Host>(&mut self, event: Event, out: &mut Printer, host: &mut H) -> Go
         requires goes_on { self.old.over ≡ false }
         requires few { self.old.events < 1000000000 }

@@ -8,8 +8,8 @@ use Rattle.file_server.specs.DiskStates.{DiskState, HeldCall, Waits, IsDone}
 use Rattle.file_server.specs.FileDisks.{held_for}
 use Rattle.file_server.specs.Settled.{Follows}
 use Rattle.file_server.proofs.Settling.{no_difference}
-use Rattle.file_server.proofs.Engines.{done_with, held_refused, kept_in, over_stands, some_held, state_of, still_stands, waits_on}
-use Rattle.local_files.specs.Resting.{ChangesOneBlock}
+use Rattle.file_server.proofs.Engines.{done_with, held_reads, held_refused, kept_in, over_stands, some_held, state_of, still_stands, waits_on}
+use Rattle.local_files.specs.Resting.{ChangesOneBlock, OnlyReads}
 use Rattle.local_files.specs.Standing.{Stands, call_bytes, reply_in, served, wanted}
 use Rattle.local_files.specs.declared.Files.{Files}
 use Rattle.xinu_base.specs.Constants.{SYSERR}
@@ -153,3 +153,25 @@ returns-in-Some-clause-still c =
     → (with_items c.self.inside.disk c.serve.new.disk).items ≡ v.image in
     subst Q c.self.view_is (λ h is refused. (let will = held_refused e base h is refused in
     new ∙ law.after base disk here will ∙ sym (law.before base disk here will)))
+
+pub returns-in-None-clause-reads : goal.returns-in-None-clause-reads
+returns-in-None-clause-reads c =
+    let e = c.self.inside.files in let base = c.self.inside.settled.items in let disk = c.self.inside.disk.items in
+    let items : (with_items c.self.inside.disk c.serve.new.disk).items ≡ c.serve.new.disk =
+    with_items_is c.self.inside.disk c.serve.new.disk (c.serve.ensures.len ∙ ap length c.deref_mut.ensures.value ∙ sym c.self.inside.disk.ok.0) in
+    let new : (with_items c.self.inside.disk c.serve.new.disk).items ≡ served e disk = items ∙ c.serve.ensures.disk ∙ ap (served e) c.deref_mut.ensures.value in
+    let Q : DiskState → Type 0 = λ v. (h : HeldCall) → v.hand ≡ Some h → OnlyReads h.call v.system
+    → (with_items c.self.inside.disk c.serve.new.disk).items ≡ v.image in
+    subst Q c.self.view_is (λ h is reads. new
+    ∙ c.leaves_the_disk_if_it_reads.ensures.same base disk c.self.invariant.stands (held_reads e base h is reads))
+
+pub returns-in-Some-clause-reads : goal.returns-in-Some-clause-reads
+returns-in-Some-clause-reads c =
+    let e = c.self.inside.files in let base = c.self.inside.settled.items in let disk = c.self.inside.disk.items in
+    let items : (with_items c.self.inside.disk c.serve.new.disk).items ≡ c.serve.new.disk =
+    with_items_is c.self.inside.disk c.serve.new.disk (c.serve.ensures.len ∙ ap length c.deref_mut.ensures.value ∙ sym c.self.inside.disk.ok.0) in
+    let new : (with_items c.self.inside.disk c.serve.new.disk).items ≡ served e disk = items ∙ c.serve.ensures.disk ∙ ap (served e) c.deref_mut.ensures.value in
+    let Q : DiskState → Type 0 = λ v. (h : HeldCall) → v.hand ≡ Some h → OnlyReads h.call v.system
+    → (with_items c.self.inside.disk c.serve.new.disk).items ≡ v.image in
+    subst Q c.self.view_is (λ h is reads. new
+    ∙ c.leaves_the_disk_if_it_reads.ensures.same base disk c.self.invariant.stands (held_reads e base h is reads))

@@ -95,7 +95,7 @@ returns-in_default-clause-image c =
     let first = first_of d (request_of r) (map request_of rest) turns (subst F whole c.self.invariant.first) in
     let L : List declared_request.FileRequest → Type 0 = λ l. ServesDisk (work_of d l turns) d.image new.image in
     let V : ServerState → Type 0 = λ v. ServesDisk v.work v.image new.image in
-    subst V c.self.view_is (subst L (sym whole) (serves d r rest turns new.image first c.complete.ensures.image c.complete.ensures.still))
+    subst V c.self.view_is (subst L (sym whole) (serves d r rest turns new.image first c.complete.ensures.image c.complete.ensures.still c.complete.ensures.reads))
 
 pub returns-clause-image : goal.returns-clause-image
 returns-clause-image c =
@@ -110,4 +110,4 @@ returns-clause-image c =
     let V : ServerState → Type 0 = λ v. ServesDisk v.work v.image c.begin_next.new.disk.image in
     let I : List ℕ → Type 0 = λ x. ServesDisk (work_of d items turns) d.image x in
     subst V c.self.view_is (subst I (sym c.begin_next.ensures.image)
-    (subst L (sym whole) (serves d r rest turns new.image first c.complete.ensures.image c.complete.ensures.still)))
+    (subst L (sym whole) (serves d r rest turns new.image first c.complete.ensures.image c.complete.ensures.still c.complete.ensures.reads)))
