@@ -1,5 +1,5 @@
 -- Which event comes next, and whether one does.
-use Rattle.std.proofs.Common.{◌≡◌, ◌≢◌, ◌∙◌, ◌≤◌, ◌==◌, ◌||◌, ℕ, zero, suc, Bool, true, false, List, [], ◌∷◌, length, drop, Option, Some, None, refl, sym, ap, arith, ne_eqb}
+use Rattle.std.proofs.Common.{◌≡◌, ◌≢◌, ◌∙◌, ◌≤◌, ◌<◌, ◌+◌, ◌++◌, replicate, ◌==◌, ◌||◌, ℕ, zero, suc, Bool, true, false, List, [], ◌∷◌, length, drop, Option, Some, None, refl, sym, ap, arith, ne_eqb}
 use Rattle.std.proofs.lemmas.Option.{slice_get_within}
 use Rattle.std.specs.Prelude.{MatchOption, slice_get}
 
@@ -39,3 +39,19 @@ comes-next over xs n x goes is =
     let within = slice_get_within xs n x is in
     let few : n ≢ length xs = λ same. absurd (omega (arith, within, same)) in
     ap (λ (b : Bool). b || (n == length xs)) goes ∙ ne_eqb n (length xs) few
+
+-- one of the elements of which there are so many
+get-copy : {X : Type 0} (x : X) (n k : ℕ) (xs : List X) → k < n → slice_get (replicate n x ++ xs) k ≡ Some x
+get-copy x zero k xs within = absurd (omega (arith, within))
+get-copy x (suc n) zero xs within = refl
+get-copy x (suc n) (suc k) xs within = get-copy x n k xs (omega (arith, within))
+
+-- an element after those that come first
+get-later : {X : Type 0} (n k : ℕ) (xs : List X) → slice_get (drop n xs) k ≡ slice_get xs (n + k)
+get-later {X = X} zero k xs = ap (slice_get xs) (let e : k ≡ 0 + k = omega arith in e)
+get-later (suc n) k [] = refl
+get-later {X = X} (suc n) k (x ∷ xs) = get-later n k xs ∙ ap (λ (m : ℕ). slice_get (x ∷ xs) m) (let e : suc (n + k) ≡ suc n + k = omega arith in e)
+
+-- one of the elements that come next, if there are so many
+pub next-copy : {X : Type 0} (x : X) (n k m : ℕ) (xs rest : List X) → drop n xs ≡ replicate m x ++ rest → k < m → slice_get xs (n + k) ≡ Some x
+next-copy {X = X} x n k m xs rest is within = sym (get-later n k xs) ∙ ap (λ (l : List X). slice_get l k) is ∙ get-copy x m k rest within

@@ -1,10 +1,11 @@
 -- What the next event of a run did, and what steps that print nothing did.
-use Rattle.std.specs.Prelude.{◌≡◌, ◌≢◌, ◌+◌, ◌<◌, ℕ, true, List, length, Option, Some, is_some, slice_get}
+use Rattle.std.specs.Prelude.{◌≡◌, ◌≢◌, ◌+◌, ◌<◌, ℕ, true, false, List, length, Option, Some, is_some, slice_get}
 use Rattle.printed_events.specs.Lines.{IsPrinted}
 use Rattle.replayed_run.specs.Replayed.{Replayed}
 use Rattle.replayed_run.specs.Told.{text_at}
 use Rattle.xinu_base.specs.declared.events.End.{End}
 use Rattle.xinu_base.specs.declared.events.Event.{Event}
+use Rattle.xinu_base.specs.declared.events.Event.TheVariants.{Step}
 use Rattle.xinu_model.specs.Events.{panics_in}
 use Rattle.xinu_model.specs.Runs.{end_with, is_over}
 use Rattle.xinu_model.specs.Steps.{ArePlain, stepped_times}
@@ -38,7 +39,9 @@ pub record EndsWith (old new : Replayed) (end : Option End) : Type 0 where
   pub next : slice_get old.events old.taken ≡ Some event
   pub ends : end ≡ end_with (panics_in old.state event) (is_over new.state)
 
--- The run took so many steps that print nothing.
+-- The run took so many steps that print nothing: they came next, and no event had ended it.
 pub record TakesSteps (count : ℕ) (old new : Replayed) : Type 0 where
+  pub goes_on : 0 < count → old.over ≡ false
+  pub next : (n : ℕ) → n < count → slice_get old.events (old.taken + n) ≡ Some Step
   pub plain : ArePlain count old.state
   pub changes : new ≡ record old { taken = old.taken + count; state = stepped_times count old.state; told = new.told }

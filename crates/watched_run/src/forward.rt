@@ -95,9 +95,7 @@ fn advance_others(
 ) -> Result<Option<Stopped>, HostFault>
     ensures same { OnOk result (IsSameRun run.old.replay run.new.replay) }
 {
-    if !run.take_step() {
-        let _ = run.take_event(console)?;
-    }
+    let _ = run.take_next(console)?;
     match run.changed() {
         Some(at) => Ok(Some(changed_at(at, goal.teller(shown(&run.replay))))),
         None => Ok(None),
@@ -115,11 +113,8 @@ fn step(
 ) -> Result<Option<Cause>, HostFault>
     ensures same { OnOk result (IsSameRun run.old.replay run.new.replay) }
 {
-    if run.take_step() {
-        return Ok(None);
-    }
     let number = run.replay.taken();
-    let trap = run.take_event(console)?;
+    let trap = run.take_next(console)?;
     if trap.is_none() || !goal.tells(p) || run.was_told(number) {
         return Ok(None);
     }

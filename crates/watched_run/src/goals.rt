@@ -1,5 +1,8 @@
 //! How far the run goes.
 
+ghost use Rattle.std.specs.Prelude.{◌≡◌, ◌==◌, if◌then◌else◌};
+ghost use Rattle.watched_run.specs.Goals as goals;
+
 use xinu_base::Pid;
 
 /// How far the run goes.
@@ -17,7 +20,9 @@ pub enum Goal {
 
 impl Goal {
     /// Whether an instruction of this process reaches it.
-    pub(crate) fn is_met(&self, p: Pid) -> bool {
+    pub(crate) fn is_met(&self, p: Pid) -> bool
+        ensures met { result ≡ goals.is_met self.now p }
+    {
         match self {
             Goal::Instruction(q) => p.index() == q.index(),
             Goal::Any => true,
@@ -26,7 +31,9 @@ impl Goal {
     }
 
     /// Whether a trap of this process may be told.
-    pub(crate) fn tells(&self, p: Pid) -> bool {
+    pub(crate) fn tells(&self, p: Pid) -> bool
+        ensures tells { result ≡ goals.tells self.now p }
+    {
         match self {
             Goal::Alone(q) => p.index() == q.index(),
             Goal::Instruction(_) | Goal::Any | Goal::Point => true,
@@ -34,7 +41,9 @@ impl Goal {
     }
 
     /// Whether the points of this process stop the run.
-    pub(crate) fn has_points(&self, p: Pid) -> bool {
+    pub(crate) fn has_points(&self, p: Pid) -> bool
+        ensures points { result ≡ goals.has_points self.now p }
+    {
         match self {
             Goal::Alone(q) => p.index() == q.index(),
             Goal::Point => true,
@@ -43,7 +52,9 @@ impl Goal {
     }
 
     /// Whether nothing but a trap stops the run, if there are no points.
-    pub(crate) fn is_free(&self) -> bool {
+    pub(crate) fn is_free(&self) -> bool
+        ensures free { result ≡ goals.is_free self.now }
+    {
         match self {
             Goal::Point => true,
             Goal::Instruction(_) | Goal::Any | Goal::Alone(_) => false,
@@ -51,7 +62,9 @@ impl Goal {
     }
 
     /// Whether it is a point of one process.
-    pub(crate) fn is_alone(&self) -> bool {
+    pub(crate) fn is_alone(&self) -> bool
+        ensures alone { result ≡ goals.is_alone self.now }
+    {
         match self {
             Goal::Alone(_) => true,
             Goal::Instruction(_) | Goal::Any | Goal::Point => false,
@@ -59,7 +72,9 @@ impl Goal {
     }
 
     /// The process that a change is told of, if this one made it.
-    pub(crate) fn teller(&self, p: Pid) -> Pid {
+    pub(crate) fn teller(&self, p: Pid) -> Pid
+        ensures teller { result ≡ goals.teller self.now p }
+    {
         match self {
             Goal::Alone(q) => *q,
             Goal::Instruction(_) | Goal::Any | Goal::Point => p,
@@ -68,7 +83,9 @@ impl Goal {
 }
 
 /// One instruction of a process; of anyone, if it is the null process, which makes none.
-pub fn one_of(p: Pid) -> Goal {
+pub fn one_of(p: Pid) -> Goal
+    ensures one { result ≡ (if p == 0 then Goal.Any else Goal.Instruction p) }
+{
     if p.index() == 0 {
         Goal::Any
     } else {

@@ -1,18 +1,39 @@
 //! Where the run is to stop: ahead of instructions, and after changes of RAM.
 
+ghost use Rattle.std.specs.Prelude.{◌≡◌, ◌&&◌, ◌==◌, ◌++◌, ◌∷◌, [], if◌then◌else◌, IfOk, OnOk, length, map, nat_lt, not, take, true};
+ghost use Rattle.watched_run.specs.Watching as watching;
+
 use rv_hart::Ram;
 use std::alloc::{AllocError, Global};
+use xinu_base::Below;
 
-/// The most bytes that are watched at one address.
-const MOST_BYTES: u32 = 8;
-
-/// Bytes of RAM that are watched.
+/// Bytes of RAM that are watched: at most eight.
 #[derive(Clone, Copy)]
 struct Watch {
     at: u32,
-    count: u32,
-    // What they were when they were last looked at.
-    value: u64,
+    count: Below<9>,
+    // What they were when they were last looked at, and zeros after them.
+    bytes: [u8; 8],
+}
+
+impl Watch {
+    // Whether it is of other bytes than these.
+    fn is_other(&self, at: u32, count: u32) -> bool
+        ensures other { result ≡ watching.is_other (record { at = at; count = count }) (watching.area_of self.now) }
+    {
+        !(self.at == at && self.count.index() as u32 == count)
+    }
+
+    // Looks at the bytes, and answers where they are if they changed since they were last looked at.
+    fn look(&mut self, ram: &Ram) -> Option<u32>
+        ensures other { result ≡ watching.other_in ram.now self.old }
+        ensures seen { self.new ≡ watching.seen ram.now self.old }
+    {
+        let bytes = bytes_at(ram, self.at, self.count);
+        let is_same = self.bytes == bytes;
+        self.bytes = bytes;
+        if is_same { None } else { Some(self.at) }
+    }
 }
 
 /// Addresses of instructions, ahead of which the run stops, and bytes of RAM, after a change of which it stops.
@@ -24,7 +45,10 @@ pub(crate) struct Points {
 
 impl Points {
     /// None.
-    pub(crate) fn new(alloc: Global) -> Points {
+    pub(crate) fn new(alloc: Global) -> Points
+        ensures addresses { result.addresses.items ≡ [] }
+        ensures watches { result.watches.items ≡ [] }
+    {
         Points {
             addresses: Vec::new(alloc),
             watches: Vec::new(alloc),
@@ -32,12 +56,17 @@ impl Points {
     }
 
     /// Whether there is none.
-    pub(crate) fn is_empty(&self) -> bool {
+    pub(crate) fn is_empty(&self) -> bool
+        ensures addresses { result ≡ true → self.now.addresses.items ≡ [] }
+        ensures watches { result ≡ true → self.now.watches.items ≡ [] }
+    {
         self.addresses.is_empty() && self.watches.is_empty()
     }
 
     /// Whether the run stops ahead of an instruction at this address.
-    pub(crate) fn has(&self, address: u32) -> bool {
+    pub(crate) fn has(&self, address: u32) -> bool
+        ensures has { result ≡ watching.has self.now.addresses.items address }
+    {
         for point in self.addresses.as_slice() {
             if *point == address {
                 return true;
@@ -50,7 +79,10 @@ impl Points {
     ///
     /// # Errors
     /// Out of memory.
-    pub(crate) fn set(&mut self, address: u32) -> Result<(), AllocError> {
+    pub(crate) fn set(&mut self, address: u32) -> Result<(), AllocError>
+        ensures set { OnOk result (self.new.addresses.items ≡ watching.with_point address self.old.addresses.items) }
+        ensures watches { self.new.watches ≡ self.old.watches }
+    {
         if !self.has(address) {
             self.addresses.push(address)?;
         }
@@ -58,7 +90,10 @@ impl Points {
     }
 
     /// The run is no longer to stop there.
-    pub(crate) fn clear(&mut self, address: u32) {
+    pub(crate) fn clear(&mut self, address: u32)
+        ensures clear { self.new.addresses.items ≡ watching.without_point address self.old.addresses.items }
+        ensures watches { self.new.watches ≡ self.old.watches }
+    {
         self.addresses.retain(|point| *point != address);
     }
 
@@ -66,41 +101,74 @@ impl Points {
     ///
     /// # Errors
     /// Out of memory.
-    pub(crate) fn watch(&mut self, ram: &Ram, at: u32, count: u32) -> Result<bool, AllocError> {
-        if count > MOST_BYTES {
+    pub(crate) fn watch(&mut self, ram: &Ram, at: u32, count: u32) -> Result<bool, AllocError>
+        ensures few { IfOk result (λ done. done ≡ nat_lt count 9) }
+        ensures watch { IfOk result (λ done. watching.areas_of self.new.watches.items ≡ watching.with_area done (record { at = at; count = count }) (watching.areas_of self.old.watches.items)) }
+        ensures addresses { self.new.addresses ≡ self.old.addresses }
+    {
+        let Some(few) = Below::from_word(count) else {
             return Ok(false);
-        }
+        };
         self.forget(at, count);
-        let value = value_at(ram, at, count);
-        self.watches.push(Watch { at, count, value })?;
+        let bytes = bytes_at(ram, at, few);
+        self.watches.push(Watch {
+            at,
+            count: few,
+            bytes,
+        })?;
         Ok(true)
     }
 
     /// The run is no longer to stop after a change of these bytes.
-    pub(crate) fn forget(&mut self, at: u32, count: u32) {
-        self.watches
-            .retain(|watch| watch.at != at || watch.count != count);
+    pub(crate) fn forget(&mut self, at: u32, count: u32)
+        ensures forget { watching.areas_of self.new.watches.items ≡ watching.without_area (record { at = at; count = count }) (watching.areas_of self.old.watches.items) }
+        ensures addresses { self.new.addresses ≡ self.old.addresses }
+    {
+        self.watches.retain(|watch| watch.is_other(at, count));
     }
 
     /// Looks at the bytes that are watched, and answers where the first are that changed since they were last looked at.
-    pub(crate) fn changed(&mut self, ram: &Ram) -> Option<u32> {
+    pub(crate) fn changed(&mut self, ram: &Ram) -> Option<u32>
+        ensures first { result ≡ watching.first_other ram.now self.old.watches.items }
+        ensures seen { self.new.watches.items ≡ map (watching.seen ram.now) self.old.watches.items }
+        ensures addresses { self.new.addresses ≡ self.old.addresses }
+    {
         let mut found = None;
-        for watch in self.watches.as_mut_slice() {
-            let value = value_at(ram, watch.at, watch.count);
-            if value != watch.value && found.is_none() {
-                found = Some(watch.at);
-            }
-            watch.value = value;
+        for watch in self.watches.iter_mut() {
+            let other = watch.look(ram);
+            found = first_of(found, other);
         }
         found
     }
 }
 
-// The number in so many bytes, at most eight, the lowest first. Those that aren't in RAM are 0.
-fn value_at(ram: &Ram, at: u32, count: u32) -> u64 {
-    let mut value = 0u64;
-    for byte in ram.bytes_from(at).iter().take(count as usize) {
-        value = value.wrapping_mul(256).wrapping_add(*byte as u64);
+// The first of two places that there is.
+fn first_of(found: Option<u32>, other: Option<u32>) -> Option<u32>
+    ensures first { result ≡ watching.first_of found other }
+{
+    match found {
+        Some(_) => found,
+        None => other,
     }
-    value
+}
+
+// So many bytes from an address on, those that there are, and zeros after them.
+fn bytes_at(ram: &Ram, at: u32, count: Below<9>) -> [u8; 8]
+    ensures bytes { result ≡ watching.padded (watching.bytes_of ram.now (record { at = at; count = count })) }
+{
+    let found = first_bytes(ram.bytes_from(at), count.index());
+    let mut bytes = [0u8; 8];
+    bytes[..found.len()].copy_from_slice(found);
+    bytes
+}
+
+// So many bytes in front, or all if there are fewer.
+fn first_bytes(bytes: &[u8], count: usize) -> &[u8]
+    ensures front { result.now ≡ take count bytes.now }
+{
+    if count < bytes.len() {
+        &bytes[..count]
+    } else {
+        bytes
+    }
 }

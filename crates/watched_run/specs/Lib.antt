@@ -1,0 +1,4 @@
+pub mod Goals
+pub mod Moments
+pub mod Traps
+pub mod Watching
