@@ -1,3 +1,4 @@
 pub mod KeptRegisters
+pub mod Passed
 pub mod Registers
 pub mod SameInputs

@@ -1,7 +1,8 @@
 //! An event that is taken, with what was seen ahead of it and what it changed.
 
-ghost use Rattle.std.specs.Prelude.{◌≡◌, ◌<◌, false, IfOk};
+ghost use Rattle.std.specs.Prelude.{◌≡◌, ◌<◌, false, IfOk, Some};
 ghost use Rattle.explain_command.specs.Happenings.{IsShown};
+ghost use Rattle.replayed_run.specs.Progress.{TakesEvent};
 ghost use Rattle.replayed_run.specs.Replayed.{HasInputs, is_at_end};
 
 use crate::changes::{Changes, changes_of};
@@ -27,6 +28,7 @@ pub(crate) struct Happening {
 pub(crate) fn happen(replay: &mut Replay) -> Result<Happening, HostFault>
     requires goes_on { is_at_end replay.old ≡ false }
     ensures shown { IfOk result (λ shown. IsShown replay.old replay.new shown) }
+    ensures takes { IfOk result (λ shown. TakesEvent replay.old replay.new (Some shown.taken.printed)) }
     ensures further { IfOk result (λ _. replay.old.taken < replay.new.taken) }
     ensures inputs { HasInputs replay.old.disks replay.old.files replay.old.events replay.new }
 {
@@ -43,6 +45,7 @@ pub(crate) fn happen(replay: &mut Replay) -> Result<Happening, HostFault>
 // Takes the event that comes next.
 fn take(replay: &mut Replay) -> Result<Taken, HostFault>
     requires goes_on { is_at_end replay.old ≡ false }
+    ensures takes { IfOk result (λ taken. TakesEvent replay.old replay.new (Some taken.printed)) }
     ensures further { IfOk result (λ _. replay.old.taken < replay.new.taken) }
     ensures inputs { HasInputs replay.old.disks replay.old.files replay.old.events replay.new }
 {

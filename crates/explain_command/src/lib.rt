@@ -26,6 +26,7 @@ mod running;
 mod sights;
 mod states;
 mod steps;
+mod straying;
 mod telling;
 mod traces;
 mod traps;

@@ -1,6 +1,8 @@
 //! The run that is told: its events are taken, and what comes of each is told.
 
 ghost use Rattle.std.specs.Prelude.{◌≡◌, ◌<◌, false, IfOk};
+ghost use Rattle.explain_command.specs.Passing.{HasNoted, TakesNext};
+ghost use Rattle.memory_strays.specs.Strays.{nothing_noted};
 ghost use Rattle.replayed_run.specs.Replayed.{HasInputs, IsReplayed, is_at_end};
 ghost use Rattle.xinu_model.specs.Text.{tables_of, text};
 
@@ -11,6 +13,7 @@ use crate::unsent::tell_unsent;
 use crate::words::{Listed, NONE};
 use host_port::HostFault;
 use machine::Go;
+use memory_strays::Strays;
 use replayed_run::{Printed, Replay};
 use run_story::Story;
 use std::alloc::Global;
@@ -20,13 +23,12 @@ use xinu_base::{End, Event};
 ///
 /// # Errors
 /// Out of memory.
-pub(crate) fn tell(
-    alloc: Global,
-    replay: &mut Replay,
-    listed: Listed,
-) -> Result<String, HostFault> {
+pub(crate) fn tell(alloc: Global, replay: &mut Replay, listed: Listed) -> Result<String, HostFault>
+    requires begins { replay.old.taken ≡ 0 }
+{
     let mut telling = Telling::new(alloc, listed);
-    tell_run(replay, &mut telling)
+    let mut strays = Strays::new(alloc)?;
+    tell_run(replay, &mut telling, &mut strays)
 }
 
 /// The text that tells the state after so many events, or after all if the run ends earlier.
@@ -72,17 +74,34 @@ fn state_seen(replay: &Replay) -> Result<StateSeen, HostFault>
 }
 
 // The same, with nothing told so far.
-fn tell_run(replay: &mut Replay, telling: &mut Telling) -> Result<String, HostFault> {
+fn tell_run(
+    replay: &mut Replay,
+    telling: &mut Telling,
+    strays: &mut Strays,
+) -> Result<String, HostFault>
+    requires begins { replay.old.taken ≡ 0 }
+    requires none { strays.old ≡ nothing_noted }
+    ensures strays { IfOk result (λ _. HasNoted replay.old replay.new strays.new) }
+{
     telling.story.begin(tables(replay)?.lines());
-    let end = take_events(replay, telling)?;
+    let end = take_events(replay, telling, strays)?;
     tell_unsent(&mut telling.story, replay.state())?;
     Ok(telling.text(replay, end)?)
 }
 
 // Takes the events until the run ends.
 #[inline(never)]
-fn take_events(replay: &mut Replay, telling: &mut Telling) -> Result<End, HostFault> {
+fn take_events(
+    replay: &mut Replay,
+    telling: &mut Telling,
+    strays: &mut Strays,
+) -> Result<End, HostFault>
+    requires begins { replay.old.taken ≡ 0 }
+    requires none { strays.old ≡ nothing_noted }
+    ensures strays { IfOk result (λ _. HasNoted replay.old replay.new strays.new) }
+{
     while let Some(event) = replay.next() {
+        telling.note(event, replay, strays);
         match take_event(replay, event, telling)? {
             Go::Goes => {}
             Go::Done => return Ok(End::Done),
@@ -95,6 +114,7 @@ fn take_events(replay: &mut Replay, telling: &mut Telling) -> Result<End, HostFa
 // Takes the event that comes next, and tells what came of it: nothing of a step that prints nothing, unless it is listed.
 fn take_event(replay: &mut Replay, event: Event, telling: &mut Telling) -> Result<Go, HostFault>
     requires goes_on { is_at_end replay.old ≡ false }
+    ensures takes { IfOk result (λ _. TakesNext replay.old replay.new) }
     ensures further { IfOk result (λ _. replay.old.taken < replay.new.taken) }
     ensures inputs { HasInputs replay.old.disks replay.old.files replay.old.events replay.new }
 {

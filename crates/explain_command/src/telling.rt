@@ -1,6 +1,7 @@
 //! What is told of a run so far: the story, and the list of events.
 
-ghost use Rattle.std.specs.Prelude.{◌≡◌, ◌+◌};
+ghost use Rattle.std.specs.Prelude.{◌≡◌, ◌+◌, Some};
+ghost use Rattle.memory_strays.specs.Strays.{note, note_event};
 
 use crate::callers::add_callers;
 use crate::happenings::Happening;
@@ -10,9 +11,11 @@ use crate::reasons::add_reason;
 use crate::sights::Sight;
 use crate::states::{StateSeen, add_lists, add_process, add_stack, add_tick};
 use crate::steps::{add_step, call_line};
+use crate::straying::add_strays;
 use crate::traps::{add_trap, add_trap_place};
 use crate::whereabouts::add_whereabouts;
 use crate::words::Listed;
+use memory_strays::Strays;
 use printed_runs::{PROCESSES, Text};
 use replayed_run::Replay;
 use run_story::Story;
@@ -24,6 +27,7 @@ use xinu_base::{End, Event, Pid};
 pub(crate) struct Telling {
     alloc: Global,
     pub(crate) story: Story,
+    strayed: Text,
     listing: Text,
     listed: Listed,
 }
@@ -34,8 +38,25 @@ impl Telling {
         Telling {
             alloc,
             story: Story::new(alloc),
+            strayed: Text::new(alloc),
             listing: Text::new(alloc),
             listed,
+        }
+    }
+
+    /// Notes the event that comes next among the strays, and tells of it if it is the first of its kind.
+    pub(crate) fn note(&mut self, event: Event, replay: &Replay, strays: &mut Strays)
+        ensures notes { strays.new ≡ note_event (Some event) replay.now.taken replay.now.state strays.old }
+    {
+        if matches!(event, Event::Step) {
+            note_step(replay, strays);
+            add_strays(
+                &mut self.strayed,
+                strays,
+                replay.taken(),
+                &self.story,
+                replay.files(),
+            );
         }
     }
 
@@ -90,6 +111,7 @@ impl Telling {
         let mut text = Text::new(self.alloc);
         text.add(&self.listing);
         self.story.tell_end(&mut text, end);
+        text.add(&self.strayed);
         self.add_left(&mut text, replay);
         self.story.tell_rest(&mut text);
         text.whole()
@@ -136,6 +158,13 @@ impl Telling {
             }
         }
     }
+}
+
+// Notes the step that comes next.
+fn note_step(replay: &Replay, strays: &mut Strays)
+    ensures notes { strays.new ≡ note replay.now.taken replay.now.state strays.old }
+{
+    strays.note(replay.state(), replay.taken());
 }
 
 // The number of the event that comes after so many, counted from 1.

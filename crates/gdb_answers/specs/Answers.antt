@@ -1,5 +1,6 @@
 -- What each packet that looks is answered, by the state of the run and the process that is looked at.
 use Rattle.std.specs.Prelude.{ℕ, List, [], Option, Some, None, codes}
+use Rattle.gdb_answers.specs.Checksums.{checksum_text}
 use Rattle.gdb_answers.specs.Descriptions.{features, part}
 use Rattle.gdb_answers.specs.Registers.{hart_of, memory_text, register_text, registers_text}
 use Rattle.gdb_answers.specs.Threads.{alive_text, thread_list}
@@ -34,6 +35,7 @@ abbrev pub state_answer : Xinu → ℕ → Command → Option (List ℕ)
 state_answer s p command.Registers = Some (registers_text (hart_of s p))
 state_answer s p (command.Register n) = Some (register_text (hart_of s p) n)
 state_answer s p (command.Memory address count) = Some (memory_text s.memory address count)
+state_answer s p (command.Checksum address count) = Some (checksum_text s.memory address count)
 state_answer s p (command.IsAlive thread) = Some (alive_text s.tables thread)
 state_answer s p (command.Read object at count) = Some (part (object_text s object) at count)
 state_answer s p _ = None

@@ -1,4 +1,5 @@
 pub mod Answers
+pub mod Checksums
 pub mod Descriptions
 pub mod Registers
 pub mod Stops

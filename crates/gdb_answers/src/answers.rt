@@ -6,6 +6,7 @@ ghost use Rattle.gdb_answers.specs.Descriptions as descriptions;
 ghost use Rattle.gdb_answers.specs.Registers as registers;
 ghost use Rattle.xinu_model.specs.Sound.State.{IsSound};
 
+use crate::checksums::checksum_text;
 use crate::descriptions::{features, part};
 use crate::fixed::fixed;
 use crate::registers::{memory_text, register_text, registers_text};
@@ -52,6 +53,9 @@ fn state_answer(
         Command::Registers => Ok(Some(registers_text(alloc, hart_of(k, p))?)),
         Command::Register(number) => Ok(Some(register_text(alloc, hart_of(k, p), number)?)),
         Command::Memory(address, count) => Ok(Some(memory_text(alloc, &k.ram, address, count)?)),
+        Command::Checksum(address, count) => Ok(Some(checksum_text(
+            alloc, &k.ram, address, count,
+        )?)),
         Command::IsAlive(thread) => Ok(Some(alive_text(alloc, &k.tables, thread)?)),
         Command::Read(object, at, count) => Ok(Some(part_of(alloc, k, object, at, count)?)),
         Command::Why

@@ -32,6 +32,7 @@ pub(crate) fn fixed(command: Command) -> Option<&'static [u8]>
         | Command::ContinueBack
         | Command::Kill
         | Command::Detach
+        | Command::Checksum(_, _)
         | Command::CurrentThread
         | Command::Monitor
         | Command::Read(_, _, _) => None,

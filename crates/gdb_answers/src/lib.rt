@@ -15,6 +15,7 @@
 #![tactic(auto)]
 
 mod answers;
+mod checksums;
 mod descriptions;
 mod fixed;
 mod registers;

@@ -72,8 +72,8 @@ pub(crate) fn memory_text(
     bytes_text(alloc, first_bytes(bytes, count as usize))
 }
 
-// So many bytes in front, or all if there are fewer.
-fn first_bytes(bytes: &[u8], count: usize) -> &[u8]
+/// So many bytes in front, or all if there are fewer.
+pub(crate) fn first_bytes(bytes: &[u8], count: usize) -> &[u8]
     ensures front { result.now ≡ take count bytes.now }
 {
     if count < bytes.len() {

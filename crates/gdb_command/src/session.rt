@@ -237,15 +237,14 @@ impl Session {
         self.tell(out)
     }
 
-    /// The run stands where it was sent.
+    /// The run stands where it was sent. The debugger isn't told of it, so the processes stay that are looked at and go on.
     pub(crate) fn stand_still(&mut self)
         ensures stays { self.new.run ≡ self.old.run }
+        ensures looks { self.new.look ≡ self.old.look }
+        ensures goes { self.new.go ≡ self.old.go }
     {
-        let process = shown(&self.run.replay);
         self.stop = Stop::Here;
-        self.process = process;
-        self.look = process;
-        self.go = process;
+        self.process = shown(&self.run.replay);
     }
 
     // Tells why the run stands.

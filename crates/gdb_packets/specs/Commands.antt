@@ -77,6 +77,7 @@ queries =
     (codes "qSupported", always command.Supported)
     ∷ (codes "QStartNoAckMode", alone command.NoAcks)
     ∷ (codes "qAttached", always command.Attached)
+    ∷ (codes "qCRC:", of_two command.Checksum)
     ∷ (codes "qC", alone command.CurrentThread)
     ∷ (codes "qRcmd,", always command.Monitor)
     ∷ (codes "qXfer:features:read:target.xml:", of_two (command.Read object.Features))

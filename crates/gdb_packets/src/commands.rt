@@ -83,6 +83,8 @@ pub enum Command {
     NoAcks,
     /// `qAttached`: whether the run was there before gdb.
     Attached,
+    /// `qCRC`: the checksum of so many bytes at an address.
+    Checksum(u32, u32),
     /// `qC`: the thread of the last stop.
     CurrentThread,
     /// `qRcmd`: the words after gdb's `monitor`.

@@ -171,6 +171,9 @@ fn query(payload: &[u8]) -> Option<Command>
     if rest_after(b"qAttached".as_slice(), payload).is_some() {
         return Some(Command::Attached);
     }
+    if let Some(rest) = rest_after(b"qCRC:".as_slice(), payload) {
+        return Some(checksum(rest));
+    }
     if let Some(rest) = rest_after(b"qC".as_slice(), payload) {
         return Some(alone(Command::CurrentThread, rest));
     }
@@ -212,6 +215,16 @@ fn memory(rest: &[u8]) -> Command
 {
     match two_numbers(rest) {
         Some((at, count)) => Command::Memory(at, count),
+        None => Command::Malformed,
+    }
+}
+
+// The checksum of bytes at an address.
+fn checksum(rest: &[u8]) -> Command
+    ensures command { result ≡ of_two Command.Checksum rest.now }
+{
+    match two_numbers(rest) {
+        Some((at, count)) => Command::Checksum(at, count),
         None => Command::Malformed,
     }
 }

@@ -1,5 +1,5 @@
 -- Every run of a placement in which nothing is chosen.
-use Rattle.std.proofs.Common.{◌≡◌, ◌∙◌, ℕ, zero, suc, List, [], ◌∷◌, map, refl, sym, ap, subst, arith}
+use Rattle.std.proofs.Common.{◌≡◌, ◌∙◌, ℕ, zero, suc, true, List, [], ◌∷◌, map, refl, sym, ap, subst, arith}
 use Rattle.std.specs.List.{Contains}
 use Rattle.std.proofs.lemmas.List.Elements.{All-contains, Contains-append_right}
 use Rattle.preemptions.proofs.Members.{is_among}
@@ -8,6 +8,7 @@ use Rattle.preemptions.specs.Preempted.{preempted_at}
 use Rattle.race_tables.specs.Outcomes.{Outcome}
 use Rattle.race_runs.specs.Runs.{ComesTo, ComesToOn, outcome_of}
 use Rattle.race_runs.specs.Explored.{Explores}
+use Rattle.race_runs.specs.Forced.{AreForced, ForcesOn}
 use Rattle.race_tables.specs.Rows.{HasRow, Row, Run, rows}
 use Rattle.race_tables.proofs.Tables.{all_have, only}
 use Rattle.xinu_base.specs.declared.events.Event.{Event}
@@ -66,10 +67,11 @@ has_its_row disks images base most within table places start outcome explores go
       is = has.is ∙ same;
     }
 
--- and its outcome, if one row is left
+-- and its outcome, if one row is left and nothing is chosen in the runs of all placements
 pub has_the_outcome : (disks : Disks) (images : List Loaded) (base : List Event) (most within : ℕ) (row : Row) (places : List ℕ) (start : Xinu) (outcome : Outcome)
-    → Explores disks images base (placements most within) (row ∷ []) → IsPlacement most within places → boot_on disks images ≡ Boots start
-    → ChoosesNothing start (preempted_at places base) → ComesTo start (preempted_at places base) outcome → outcome ≡ row.outcome
-has_the_outcome disks images base most within row places start outcome explores good boots none comes =
-    let has = has_its_row disks images base most within (row ∷ []) places start outcome explores good boots none comes in
+    → Explores disks images base (placements most within) (row ∷ []) → AreForced true disks images base (placements most within) → IsPlacement most within places
+    → boot_on disks images ≡ Boots start → ComesTo start (preempted_at places base) outcome → outcome ≡ row.outcome
+has_the_outcome disks images base most within row places start outcome explores forced good boots comes =
+    let forces = All-contains (λ (ps : List ℕ). ForcesOn true disks images (preempted_at ps base)) (placements most within) places (forced.nothing refl) (is_among most within places good) in
+    let has = has_its_row disks images base most within (row ∷ []) places start outcome explores good boots (forces.nothing refl start boots) comes in
     sym has.is ∙ ap (λ (r : Row). r.outcome) (sym (only row has.row has.among))

@@ -1,6 +1,9 @@
 -- The outcome of a run from what it printed.
-use Rattle.std.proofs.Common.{◌≡◌, ◌∙◌, ℕ, List, [], ◌∷◌, ◌++◌, refl, sym, ap, subst, append_assoc, append-nil}
+use Rattle.std.proofs.Common.{◌≡◌, ◌∙◌, ℕ, Bool, ◌&&◌, List, [], ◌∷◌, ◌++◌, refl, sym, ap, subst, append_assoc, append-nil}
+use Rattle.std.proofs.lemmas.Bool.{and_parts}
 use Rattle.race_runs.proofs.Joined.{run-ended, run-joined}
+use Rattle.race_runs.proofs.Stretches.{none-ended, none-joined}
+use Rattle.race_runs.specs.Forced.{Forces}
 use Rattle.race_runs.specs.Remainders.{IsFinished}
 use Rattle.race_runs.specs.Runs.{ComesTo, HasText}
 use Rattle.race_tables.specs.Outcomes.{Outcome, outcome_in}
@@ -57,4 +60,24 @@ comes-finished old mid front back end printed o is has f =
       is = ap (λ (t : List ℕ). outcome_in t (text (tables_of f.goes.last)) f.rest.end) (sym whole)
           ∙ ap (λ (t : List ℕ). outcome_in (printed ++ f.rest.printed) t f.rest.end) (sym f.goes.tables)
           ∙ sym f.is;
+    }
+
+-- ---- whether nothing is chosen
+
+-- the run ended before the events that are left
+pub forces-ended : (old new : Xinu) (front back : List Event) (end : End) (printed : List ℕ) (is_forced whole : Bool) → (end ≡ Schedule → ⊥)
+    → HasText old front new end printed → Forces is_forced old front → whole ≡ is_forced → Forces whole old (front ++ back)
+forces-ended old new front back end printed is_forced whole ends has forces same = record {
+  nothing = λ flag. none-ended front back old new has.lines end ends has.runs (forces.nothing (sym same ∙ flag));
+}
+
+-- the run goes on
+pub forces-finished : (old mid : Xinu) (front back : List Event) (end : End) (printed : List ℕ) (first later whole : Bool) → end ≡ Schedule
+    → HasText old front mid end printed → Forces first old front → Forces later mid back → whole ≡ (first && later) → Forces whole old (front ++ back)
+forces-finished old mid front back end printed first later whole is has forces rest same =
+    let before : RunsTo old front has.lines mid Schedule = subst (λ (e : End). RunsTo old front has.lines mid e) is has.runs in
+    record {
+      nothing = λ flag.
+          let both = and_parts first later (sym same ∙ flag) in
+          none-joined front back old mid has.lines before (forces.nothing both.0) (rest.nothing both.1);
     }

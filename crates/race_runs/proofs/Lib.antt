@@ -1,6 +1,9 @@
+pub mod Choosing
 pub mod EveryRun
 pub mod Exploring
+pub mod FileLines
 pub mod Finished
 pub mod Joined
+pub mod Stretches
 pub mod Texts
 pub mod Underway

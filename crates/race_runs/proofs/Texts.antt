@@ -1,9 +1,12 @@
 -- What a new printer sent to a new host is the text of what was printed.
-use Rattle.std.proofs.Common.{◌≡◌, ℕ, List, false, None, Ok, Err, Result, subst}
+use Rattle.std.proofs.Common.{◌≡◌, ◌∙◌, ℕ, Bool, ◌&&◌, not, List, true, false, None, Ok, Err, Result, refl, sym, ap, subst}
 use Rattle.std.specs.Prelude.{IfOk}
+use Rattle.std.proofs.lemmas.Bool.{and_parts}
 use Rattle.host_port.specs.Outside.{Outside}
 use Rattle.host_port.specs.Printing.{Printing, Prints}
 use Rattle.host_port.specs.QuietHost.{quiet_empty}
+use Rattle.race_runs.proofs.FileLines.{lines_tell}
+use Rattle.race_runs.specs.Forced.{Forces, tells_files}
 use Rattle.race_runs.specs.Runs.{HasText, RunPrinted}
 use Rattle.xinu_base.specs.declared.events.Event.{Event}
 use Rattle.xinu_base.specs.declared.events.End.{End}
@@ -23,14 +26,30 @@ text_printed before after was is lines new empty prints =
     let Q : Outside → Type 0 = λ o. Prints fresh after o is (text lines) in
     subst Q empty (subst P new prints)
 
+not_true : (b : Bool) → not b ≡ true → b ≡ false
+not_true false is = refl
+not_true true is = absurd (cc)
+
 -- the text of a run
-pub text_of_run : (old new : Xinu) (events : List Event) (end : End) (before after : Printing) (was is : Outside) (bytes : List ℕ) → before ≡ fresh
+pub text_of_run : (old new : Xinu) (events : List Event) (end : End) (is_quiet : Bool) (before after : Printing) (was is : Outside) (bytes : List ℕ) → before ≡ fresh
     → was ≡ quiet_empty → ((sent : List ℕ) → Prints fresh after quiet_empty is sent → bytes ≡ sent)
-    → RunPrinted old events new end before after was is → HasText old events new end bytes
-text_of_run old new events end before after was is bytes made empty all run = record {
+    → RunPrinted old events new end is_quiet before after was is → HasText old events new end bytes
+text_of_run old new events end is_quiet before after was is bytes made empty all run = record {
   lines = run.lines;
   runs = run.runs;
   is = all (text run.lines) (text_printed before after was is run.lines made empty run.prints);
+}
+
+-- nothing is chosen in a run that was quiet, if its text tells of no call on files
+pub forced_by_text : (old new : Xinu) (events : List Event) (end : End) (is_quiet is_forced : Bool) (before after : Printing) (was is : Outside) (bytes : List ℕ) → before ≡ fresh
+    → was ≡ quiet_empty → ((sent : List ℕ) → Prints fresh after quiet_empty is sent → bytes ≡ sent)
+    → is_forced ≡ (is_quiet && not (tells_files bytes))
+    → RunPrinted old events new end is_quiet before after was is → Forces is_forced old events
+forced_by_text old new events end is_quiet is_forced before after was is bytes made empty all forced run = record {
+  nothing = λ flag.
+      let both = and_parts is_quiet (not (tells_files bytes)) (sym forced ∙ flag) in
+      let same = all (text run.lines) (text_printed before after was is run.lines made empty run.prints) in
+      run.nothing both.0 (lines_tell run.lines (ap tells_files (sym same) ∙ not_true (tells_files bytes) both.1));
 }
 
 -- what holds of a result holds of it in a weaker form

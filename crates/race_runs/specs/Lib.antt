@@ -1,3 +1,4 @@
 pub mod Explored
+pub mod Forced
 pub mod Remainders
 pub mod Runs

@@ -1,13 +1,16 @@
 -- The outcome of a run, and a run of images from their boot on.
-use Rattle.std.specs.Prelude.{◌≡◌, ℕ, List}
+use Rattle.std.specs.Prelude.{◌≡◌, ℕ, Bool, true, false, List}
+use Rattle.std.specs.List.{list_any}
 use Rattle.host_port.specs.Outside.{Outside}
 use Rattle.host_port.specs.Printing.{Printing, Prints}
 use Rattle.kernel_boot.specs.declared.initialize.BootFault.{BootFault}
 use Rattle.kernel_boot.specs.declared.initialize.BootFault.TheVariants as fault
+use Rattle.race_runs.specs.Forced.{is_of_files}
 use Rattle.race_tables.specs.Outcomes.{Outcome, outcome_in}
 use Rattle.xinu_base.specs.declared.events.Event.{Event}
 use Rattle.xinu_base.specs.declared.events.End.{End}
 use Rattle.xinu_base.specs.declared.lines.TranscriptLine.{TranscriptLine}
+use Rattle.xinu_laws.specs.Outcomes.{ChoosesNothing}
 use Rattle.xinu_model.specs.Boot.{Boots, Disks, Loaded, NoRoom, Overlaps, boot_on}
 use Rattle.xinu_model.specs.Machine.{Xinu}
 use Rattle.xinu_model.specs.Runs.{RunsTo}
@@ -37,11 +40,13 @@ IsRefused disks images (fault.Overlap i) = boot_on disks images ≡ Overlaps i
 IsRefused disks images (fault.NoRoom i) = boot_on disks images ≡ NoRoom i
 IsRefused disks images fault.NoMemory = Unit {0}
 
--- A run through the events led from one state to the other and ended so, and its lines were printed.
-pub record RunPrinted (old : Xinu) (events : List Event) (new : Xinu) (end : End) (before after : Printing) (was is : Outside) : Type 0 where
+-- A run through the events led from one state to the other and ended so, and its lines were printed. If it was quiet and no line is of a call on
+-- files, nothing is chosen in it.
+pub record RunPrinted (old : Xinu) (events : List Event) (new : Xinu) (end : End) (is_quiet : Bool) (before after : Printing) (was is : Outside) : Type 0 where
   pub lines : List TranscriptLine
   pub runs : RunsTo old events lines new end
   pub prints : Prints before after was is (shown before.plain lines)
+  pub nothing : is_quiet ≡ true → list_any is_of_files lines ≡ false → ChoosesNothing old events
 
 -- A run through the events led from one state to the other and ended so, and its lines are this text.
 pub record HasText (old : Xinu) (events : List Event) (new : Xinu) (end : End) (printed : List ℕ) : Type 0 where

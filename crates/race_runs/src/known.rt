@@ -3,11 +3,12 @@
 ghost use Rattle.std.specs.Prelude.{◌≡◌, ◌+◌, ◌≤◌, false, length, IfOk, IfSome, List};
 ghost use Rattle.std.specs.List.{All, slice_get};
 ghost use Rattle.xinu_base.specs.declared.events.Event as declared;
+ghost use Rattle.race_runs.specs.Forced.{Forces};
 ghost use Rattle.race_runs.specs.Remainders.{IsFinished, IsKnown};
 
 use crate::remainders::Remainder;
+use crate::runs::Ran;
 use machine::Machine;
-use race_tables::Outcome;
 use std::alloc::Global;
 use std::marker::Model;
 use xinu_base::{Event, NoMemory};
@@ -57,8 +58,8 @@ impl Known {
     }
 }
 
-/// The outcome of a run that printed this text and came to this machine, and whose remainder takes these events. That is looked up if an equal
-/// machine is known, else run, and then known.
+/// The outcome of a run that printed this text and came to this machine, and whose remainder takes these events; and whether nothing is chosen in
+/// the remainder. That is looked up if an equal machine is known, else run, and then known.
 ///
 /// # Errors
 /// `NoMemory`.
@@ -68,22 +69,23 @@ pub(crate) fn finish(
     printed: &[u8],
     events: &[Event],
     known: &mut Vec<Known>,
-) -> Result<Outcome, NoMemory>
+) -> Result<Ran, NoMemory>
     requires over { machine.old.over ≡ false }
     requires few { machine.old.events + length events.now ≤ 1000000000 }
     requires known { All (λ k. IsKnown events.now k) known.old.items }
     ensures known { All (λ k. IsKnown events.now k) known.new.items }
-    ensures outcome { IfOk result (λ o. IsFinished printed.now machine.old.state events.now o) }
+    ensures outcome { IfOk result (λ r. IsFinished printed.now machine.old.state events.now r.outcome) }
+    ensures forced { IfOk result (λ r. Forces r.is_forced machine.old.state events.now) }
 {
     let place = place_of(known.as_slice(), machine);
     if place < known.len() {
         let entry = &known[place];
-        return entry.rest.outcome_after(alloc, printed);
+        return entry.rest.after(alloc, printed);
     }
     let entry = Known::of(alloc, machine, events)?;
-    let outcome = entry.rest.outcome_after(alloc, printed)?;
+    let ran = entry.rest.after(alloc, printed)?;
     remember(known, entry)?;
-    Ok(outcome)
+    Ok(ran)
 }
 
 // The place of a known machine that is equal; the number of known ones if there is none.

@@ -6,14 +6,18 @@
 //!
 //! | Call | Promise |
 //! |---|---|
-//! | [`explore`] | `explores`: there is a run for each placement, in their order, that has the outcome that is counted for it, and the table is that of these runs; after a fault, of the first of them; `cause`: the images don't boot as the fault says |
+//! | [`explore`] | `explores`: there is a run for each placement, in their order, that has the outcome that is counted for it, and the table is that of these runs; after a fault, of the first of them; `forced`: `true` only if nothing is chosen in any of them, so that there are no other runs; `cause`: the images don't boot as the fault says |
 //! | [`Progress`] | is told of each placement that was gone through; [`Silent`] says nothing |
-//! | [`laws`] | if nothing is chosen in the run of a placement, every run of it has its row, so if one row is left, its outcome |
+//! | [`laws`] | if nothing is chosen in the run of a placement, every run of it has its row; if one row is left, and the search said that nothing was chosen, every run of each placement has its outcome |
+//!
+//! Nothing is chosen in a run that makes no call on files: no event prints a line of one, and none is under way between two events. That is
+//! looked at while the run is taken (`specs/Forced.antt`), and of a back that several runs share once.
 //!
 //! `NoMemory` is free. The crate depends on `machine`, which is booted anew for each run, on `preemptions` for the placements, on `race_tables`
 //! for the outcomes and their table, and on `xinu_laws` for runs in which nothing is chosen.
 #![tactic(auto)]
 
+mod choices;
 mod copies;
 mod known;
 pub mod laws;

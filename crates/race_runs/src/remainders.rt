@@ -4,18 +4,19 @@ ghost use Rattle.std.specs.Prelude.{◌≡◌, ◌+◌, ◌++◌, ◌≤◌, fal
 ghost use Rattle.race_runs.specs.Remainders.{GoesOn};
 ghost use Rattle.race_tables.specs.Outcomes.{outcome_in};
 
-use crate::runs::{print_events, print_tables};
+use crate::runs::{Ran, print_events, print_tables};
 use machine::Machine;
 use race_tables::Outcome;
 use std::alloc::Global;
 use std::marker::Model;
 use xinu_base::{End, Event, NoMemory};
 
-/// The text that the remainder of a run prints, that of the tables after it, and how it ends.
+/// The text that the remainder of a run prints, that of the tables after it, how it ends, and whether nothing is chosen in it.
 pub(crate) struct Remainder {
     printed: Vec<u8>,
     tables: Vec<u8>,
     end: End,
+    is_forced: bool,
 }
 
 impl Drop for Remainder {
@@ -24,6 +25,7 @@ impl Drop for Remainder {
             printed: _printed,
             tables: _tables,
             end: _end,
+            is_forced: _is_forced,
         } = self;
     }
 }
@@ -33,7 +35,7 @@ impl Model for Remainder {
 
     ghost Value = { seen.Remainder };
 
-    ghost view = { λ r. record { printed = r.printed.items; tables = r.tables.items; end = r.end } };
+    ghost view = { λ r. record { printed = r.printed.items; tables = r.tables.items; end = r.end; is_forced = r.is_forced } };
 }
 
 impl Remainder {
@@ -47,21 +49,27 @@ impl Remainder {
         requires few { machine.old.events + length events.now ≤ 1000000000 }
         ensures goes { IfOk result (λ rest. GoesOn machine.old.state events.now rest) }
     {
-        let (printed, end) = print_events(alloc, machine, events)?;
+        let taken = print_events(alloc, machine, events)?;
         let tables = print_tables(alloc, machine)?;
         Ok(Remainder {
-            printed,
+            printed: taken.text,
             tables,
-            end,
+            end: taken.end,
+            is_forced: taken.is_forced,
         })
     }
 
-    /// The outcome of a run that printed this text before its remainder.
-    pub(crate) fn outcome_after(&self, alloc: Global, printed: &[u8]) -> Result<Outcome, NoMemory>
-        ensures outcome { IfOk result (λ o. o ≡ outcome_in (printed.now ++ self.now.printed) self.now.tables self.now.end) }
+    /// The outcome of a run that printed this text before its remainder, and whether nothing is chosen in the remainder.
+    pub(crate) fn after(&self, alloc: Global, printed: &[u8]) -> Result<Ran, NoMemory>
+        ensures outcome { IfOk result (λ r. r.outcome ≡ outcome_in (printed.now ++ self.now.printed) self.now.tables self.now.end) }
+        ensures forced { IfOk result (λ r. r.is_forced ≡ self.now.is_forced) }
     {
         let whole = joined(alloc, printed, &self.printed)?;
-        Outcome::new(alloc, &whole, &self.tables, self.end)
+        let outcome = Outcome::new(alloc, &whole, &self.tables, self.end)?;
+        Ok(Ran {
+            outcome,
+            is_forced: self.is_forced,
+        })
     }
 }
 

@@ -1,6 +1,6 @@
 //! The search: all placements are gone through, each by a run.
 
-ghost use Rattle.std.specs.Prelude.{◌≡◌, ◌+◌, ◌++◌, ◌≤◌, ℕ, List, [], length, take, drop, map, IfErr, MatchResult};
+ghost use Rattle.std.specs.Prelude.{◌≡◌, ◌+◌, ◌++◌, ◌≤◌, ℕ, List, [], length, take, drop, map, IfErr, IfOk, MatchResult};
 ghost use Rattle.std.specs.List.{All};
 ghost use Rattle.given_disks.specs.Disks.{disks_of};
 ghost use Rattle.image_loader.specs.Images.{loaded_of};
@@ -9,15 +9,16 @@ ghost use Rattle.preemptions.specs.Preempted.{preempted_at};
 ghost use Rattle.race_runs.specs.Remainders.{IsKnown};
 ghost use Rattle.race_runs.specs.Runs.{ComesToOn, IsRefused};
 ghost use Rattle.race_runs.specs.Explored.{Explores, ExploresSome};
+ghost use Rattle.race_runs.specs.Forced.{AreForced, ForcesOn};
 
 use crate::known::Known;
 use crate::progress::Progress;
-use crate::runs::run_on;
+use crate::runs::{Ran, run_on};
 use image_loader::Image;
 use lfs_layout::{CleanImage, RawImage};
 use machine::BootFault;
 use preemptions::{Placements, preempt};
-use race_tables::{Outcome, Row, count_run};
+use race_tables::{Row, count_run};
 use std::alloc::Global;
 use xinu_base::Event;
 
@@ -27,7 +28,8 @@ const SETTLING: usize = 4096;
 const LONG: usize = 32768;
 
 /// Runs the images on these disks through the base's events with each placement of at most `most` quantum ends within its first steps, in
-/// their order, and puts the outcomes into a table that is empty before. The progress is told of each that was gone through.
+/// their order, and puts the outcomes into a table that is empty before. The progress is told of each that was gone through. Answers whether nothing
+/// was chosen in them, so that there are no other runs.
 ///
 /// # Errors
 /// `Overlap` and `NoRoom` if and only if the images don't boot; `NoMemory`. The table is that of the placements so far.
@@ -41,7 +43,7 @@ pub fn explore<P: Progress>(
     within: u32,
     table: &mut Vec<Row>,
     progress: &mut P,
-) -> Result<(), BootFault>
+) -> Result<bool, BootFault>
     requires some { 1 ≤ length images.now }
     requires few { length images.now ≤ 8 }
     requires base { length base.now ≤ 999999994 }
@@ -49,6 +51,7 @@ pub fn explore<P: Progress>(
     requires within { within ≤ 1000000 }
     requires empty { table.old.items ≡ [] }
     ensures explores { MatchResult result (λ _. Explores (disks_of disk0.now disk1.now) (map loaded_of images.now) base.now (placements most within) table.new.items) (λ _. ExploresSome (disks_of disk0.now disk1.now) (map loaded_of images.now) base.now (placements most within) table.new.items) }
+    ensures forced { IfOk result (λ are_forced. AreForced are_forced (disks_of disk0.now disk1.now) (map loaded_of images.now) base.now (placements most within)) }
     ensures first { All (λ row. IsPlacement most within row.first) table.new.items }
     ensures cause { IfErr result (IsRefused (disks_of disk0.now disk1.now) (map loaded_of images.now)) }
 {
@@ -56,14 +59,16 @@ pub fn explore<P: Progress>(
     let (front, back) = base.split_at(cut);
     let mut known = Vec::new(alloc);
     let mut left = Placements::new(alloc, most, within);
+    let mut are_forced = true;
     while let Some(places) = left.first() {
-        let outcome = match run_placement(
+        let ran = match run_placement(
             alloc, images, disk0, disk1, front, back, places, &mut known,
         ) {
-            Ok(outcome) => outcome,
+            Ok(ran) => ran,
             Err(fault) => return Err(fault),
         };
-        match count_run(alloc, table, outcome, places) {
+        are_forced = are_forced && ran.is_forced;
+        match count_run(alloc, table, ran.outcome, places) {
             Ok(()) => {}
             Err(_) => return Err(BootFault::NoMemory),
         }
@@ -73,7 +78,7 @@ pub fn explore<P: Progress>(
         }
         progress.tell();
     }
-    Ok(())
+    Ok(are_forced)
 }
 
 // Where the base is cut into the front, in which all preemptions come, and the back. It isn't cut if the back isn't worth a comparison.
@@ -99,7 +104,7 @@ fn run_placement(
     back: &[Event],
     places: &[u32],
     known: &mut Vec<Known>,
-) -> Result<Outcome, BootFault>
+) -> Result<Ran, BootFault>
     requires some { 1 ≤ length images.now }
     requires few { length images.now ≤ 8 }
     requires events { length front.now + length back.now ≤ 999999994 }
@@ -107,7 +112,8 @@ fn run_placement(
     requires ascending { IsAscending places.now }
     requires known { All (λ k. IsKnown back.now k) known.old.items }
     ensures known { All (λ k. IsKnown back.now k) known.new.items }
-    ensures comes { MatchResult result (λ o. ComesToOn (disks_of disk0.now disk1.now) (map loaded_of images.now) (preempted_at places.now front.now ++ back.now) o) (λ fault. IsRefused (disks_of disk0.now disk1.now) (map loaded_of images.now) fault) }
+    ensures forced { IfOk result (λ r. ForcesOn r.is_forced (disks_of disk0.now disk1.now) (map loaded_of images.now) (preempted_at places.now front.now ++ back.now)) }
+    ensures comes { MatchResult result (λ r. ComesToOn (disks_of disk0.now disk1.now) (map loaded_of images.now) (preempted_at places.now front.now ++ back.now) r.outcome) (λ fault. IsRefused (disks_of disk0.now disk1.now) (map loaded_of images.now) fault) }
 {
     let Ok(events) = preempt(alloc, front, places) else {
         return Err(BootFault::NoMemory);

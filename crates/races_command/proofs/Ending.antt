@@ -1,5 +1,5 @@
 -- How the search and the command end.
-use Rattle.std.proofs.Common.{◌≡◌, ◌∙◌, ℕ, ◌≤◌, ◌<◌, ◌+◌, true, false, List, [], length, map, length-append, Option, Some, None, refl, sym, ap, subst, arith}
+use Rattle.std.proofs.Common.{◌≡◌, ◌∙◌, ℕ, ◌≤◌, ◌<◌, ◌+◌, Bool, true, false, List, [], length, map, length-append, Option, Some, None, refl, sym, ap, subst, arith}
 use Rattle.std.specs.Prelude.{Result, Ok, Err, MatchResult, option_map}
 use denote.Ref.{Bor}
 use Rattle.std.specs.List.{sum}
@@ -11,6 +11,7 @@ use Rattle.kernel_boot.specs.declared.initialize.BootFault.TheVariants as boot
 use Rattle.preemptions.specs.Placements.{placements}
 use Rattle.race_runs.specs.Runs.{IsRefused}
 use Rattle.race_runs.specs.Explored.{Explores, ExploresSome}
+use Rattle.race_runs.specs.Forced.{AreForced}
 use Rattle.race_tables.specs.Rows.{Row, Run, rows}
 use Rattle.race_runs.proofs.Exploring.{under_way-start}
 use Rattle.preemptions.proofs.Fewness.{few_placements}
@@ -47,15 +48,21 @@ some_fit disks images base most within table small few some =
     let parts : length some.tried + length some.left ≡ length (placements most within) = sym (length-append some.tried some.left) ∙ ap (λ (ps : List (List ℕ)). length ps) some.split in
     omega (arith, total table some.explores.runs some.explores.is, sized, length-map some.explores.runs (λ (run : Run). run.places), parts, few_placements most within small few)
 
+-- that nothing was chosen isn't said
+none_forced : (s : Searched) → AreForced false s.disks s.images s.base (placements s.most s.within)
+none_forced s = record { nothing = λ is. absurd (cc) }
+
 -- no placement was gone through
 pub breaks_at_once : (s : Searched) (h : Outside) → BreaksOff s h h
 breaks_at_once s h =
-    let start = under_way-start s.disks s.images s.base s.most s.within (placements s.most s.within) [] refl (all_placements s.most s.within) in
+    let start = under_way-start false s.disks s.images s.base s.most s.within (placements s.most s.within) [] refl (all_placements s.most s.within) in
     record {
       are_all = false;
       table = [];
       explores = record { tried = start.tried; left = placements s.most s.within; split = start.split; explores = start.explores };
-      sends = sends_nothing (table_text false s.most s.within []) None h;
+      are_forced = false;
+      forced = none_forced s;
+      sends = sends_nothing (table_text false false s.most s.within []) None h;
     }
 
 -- the images didn't boot
@@ -65,43 +72,48 @@ boot_ends s (boot.NoRoom i) h is = (is, refl)
 boot_ends s boot.NoMemory h is = breaks_at_once s h
 
 -- the table was sent, and then the file
-pub finds : (s : Searched) (table : List Row) (old mid new : Outside) → Explores s.disks s.images s.base (placements s.most s.within) table
-    → mid ≡ counted (appended old Out (table_text true s.most s.within table)) mid.faults
+pub finds : (s : Searched) (are_forced : Bool) (table : List Row) (old mid new : Outside) → Explores s.disks s.images s.base (placements s.most s.within) table
+    → AreForced are_forced s.disks s.images s.base (placements s.most s.within)
+    → mid ≡ counted (appended old Out (table_text true are_forced s.most s.within table)) mid.faults
     → new ≡ counted (with_file mid (found_file s.found s.outcome s.base table)) new.faults → Searches s None old new
-finds s table old mid new explores sent written = record {
+finds s are_forced table old mid new explores forced sent written = record {
   table = table;
   explores = explores;
-  sent = both_sent (table_text true s.most s.within table) (found_file s.found s.outcome s.base table) old mid new sent written;
+  are_forced = are_forced;
+  forced = forced;
+  sent = both_sent (table_text true are_forced s.most s.within table) (found_file s.found s.outcome s.base table) old mid new sent written;
 }
 
 -- sending was broken off
-stops_so : (s : Searched) (table : List Row) (f : Fault) (old new : Outside) → Explores s.disks s.images s.base (placements s.most s.within) table
-    → SendsPart (table_text true s.most s.within table) (found_file s.found s.outcome s.base table) old new → IsBreak f old.faults new.faults → Searches s (Some f) old new
-stops_so s table (fault.Refused (why.Refused refusal.NoMemory)) old new explores sends cause = record { are_all = true; table = table; explores = explores; sends = sends }
-stops_so s table (fault.Refused (why.Refused refusal.HostFault)) old new explores sends cause = (record { are_all = true; table = table; explores = explores; sends = sends }, cause)
-stops_so s table (fault.Refused (why.Refused refusal.Usage)) old new explores sends cause = absurd cause
-stops_so s table (fault.Refused (why.Refused (refusal.Image i k))) old new explores sends cause = absurd cause
-stops_so s table (fault.Refused (why.Refused (refusal.Schedule l))) old new explores sends cause = absurd cause
-stops_so s table (fault.Refused (why.Refused (refusal.Disk d b r))) old new explores sends cause = absurd cause
-stops_so s table (fault.Refused (why.Refused (refusal.Overlap i))) old new explores sends cause = absurd cause
-stops_so s table (fault.Refused (why.Refused (refusal.NoRoom i))) old new explores sends cause = absurd cause
-stops_so s table (fault.Refused (why.Refused (refusal.Asm l k))) old new explores sends cause = absurd cause
-stops_so s table (fault.Refused (why.Refused refusal.TraceTooLong)) old new explores sends cause = absurd cause
-stops_so s table (fault.Refused (why.Refused refusal.NoSuchFile)) old new explores sends cause = absurd cause
-stops_so s table (fault.Refused (why.Refused refusal.DoesNotFit)) old new explores sends cause = absurd cause
-stops_so s table (fault.Refused (why.Words wrong)) old new explores sends cause = absurd cause
-stops_so s table (fault.Refused (why.Unread name)) old new explores sends cause = absurd cause
-stops_so s table (fault.Refused (why.Unwritten name)) old new explores sends cause = absurd cause
-stops_so s table fault.TooMany old new explores sends cause = absurd cause
-stops_so s table fault.TooLong old new explores sends cause = absurd cause
-stops_so s table fault.TooFar old new explores sends cause = absurd cause
+stops_so : (s : Searched) (are_forced : Bool) (table : List Row) (f : Fault) (old new : Outside) → Explores s.disks s.images s.base (placements s.most s.within) table
+    → AreForced are_forced s.disks s.images s.base (placements s.most s.within)
+    → SendsPart (table_text true are_forced s.most s.within table) (found_file s.found s.outcome s.base table) old new → IsBreak f old.faults new.faults → Searches s (Some f) old new
+stops_so s are_forced table (fault.Refused (why.Refused refusal.NoMemory)) old new explores forced sends cause = record { are_all = true; table = table; explores = explores; are_forced = are_forced; forced = forced; sends = sends }
+stops_so s are_forced table (fault.Refused (why.Refused refusal.HostFault)) old new explores forced sends cause = (record { are_all = true; table = table; explores = explores; are_forced = are_forced; forced = forced; sends = sends }, cause)
+stops_so s are_forced table (fault.Refused (why.Refused refusal.Usage)) old new explores forced sends cause = absurd cause
+stops_so s are_forced table (fault.Refused (why.Refused (refusal.Image i k))) old new explores forced sends cause = absurd cause
+stops_so s are_forced table (fault.Refused (why.Refused (refusal.Schedule l))) old new explores forced sends cause = absurd cause
+stops_so s are_forced table (fault.Refused (why.Refused (refusal.Disk d b r))) old new explores forced sends cause = absurd cause
+stops_so s are_forced table (fault.Refused (why.Refused (refusal.Overlap i))) old new explores forced sends cause = absurd cause
+stops_so s are_forced table (fault.Refused (why.Refused (refusal.NoRoom i))) old new explores forced sends cause = absurd cause
+stops_so s are_forced table (fault.Refused (why.Refused (refusal.Asm l k))) old new explores forced sends cause = absurd cause
+stops_so s are_forced table (fault.Refused (why.Refused refusal.TraceTooLong)) old new explores forced sends cause = absurd cause
+stops_so s are_forced table (fault.Refused (why.Refused refusal.NoSuchFile)) old new explores forced sends cause = absurd cause
+stops_so s are_forced table (fault.Refused (why.Refused refusal.DoesNotFit)) old new explores forced sends cause = absurd cause
+stops_so s are_forced table (fault.Refused (why.Words wrong)) old new explores forced sends cause = absurd cause
+stops_so s are_forced table (fault.Refused (why.Unread name)) old new explores forced sends cause = absurd cause
+stops_so s are_forced table (fault.Refused (why.Unwritten name)) old new explores forced sends cause = absurd cause
+stops_so s are_forced table fault.TooMany old new explores forced sends cause = absurd cause
+stops_so s are_forced table fault.TooLong old new explores forced sends cause = absurd cause
+stops_so s are_forced table fault.TooFar old new explores forced sends cause = absurd cause
 
 -- sending the table was broken off
-pub table_stops : (s : Searched) (table one : List Row) (f : Fault) (old new : Outside) → Explores s.disks s.images s.base (placements s.most s.within) table
-    → one ≡ table → StopsIn (table_text true s.most s.within one) None f old new → Searches s (Some f) old new
-table_stops s table one f old new explores same stops =
-    let whole = subst (λ (t : List Row). StopsIn (table_text true s.most s.within t) None f old new) same stops in
-    stops_so s table f old new explores (sends_with (table_text true s.most s.within table) (found_file s.found s.outcome s.base table) old new whole.sends) whole.cause
+pub table_stops : (s : Searched) (are_forced : Bool) (table one : List Row) (f : Fault) (old new : Outside) → Explores s.disks s.images s.base (placements s.most s.within) table
+    → AreForced are_forced s.disks s.images s.base (placements s.most s.within)
+    → one ≡ table → StopsIn (table_text true are_forced s.most s.within one) None f old new → Searches s (Some f) old new
+table_stops s are_forced table one f old new explores forced same stops =
+    let whole = subst (λ (t : List Row). StopsIn (table_text true are_forced s.most s.within t) None f old new) same stops in
+    stops_so s are_forced table f old new explores forced (sends_with (table_text true are_forced s.most s.within table) (found_file s.found s.outcome s.base table) old new whole.sends) whole.cause
 
 -- the host failed later
 breaks_later : (f : Fault) (a b c : ℕ) → a ≤ b → IsBreak f b c → IsBreak f a c
@@ -125,43 +137,48 @@ breaks_later fault.TooLong a b c le cause = cause
 breaks_later fault.TooFar a b c le cause = cause
 
 -- a file that isn't written whole leaves what was sent before it
-pub file_stops : (s : Searched) (table : List Row) (f : Fault) (old mid new : Outside) → Explores s.disks s.images s.base (placements s.most s.within) table
-    → mid ≡ counted (appended old Out (table_text true s.most s.within table)) mid.faults → old.faults ≤ mid.faults → StopsIn [] (found_file s.found s.outcome s.base table) f mid new → Searches s (Some f) old new
-file_stops s table f old mid new explores is later stops =
-    stops_so s table f old new explores (sends_before (table_text true s.most s.within table) (found_file s.found s.outcome s.base table) old mid new is later stops.sends)
+pub file_stops : (s : Searched) (are_forced : Bool) (table : List Row) (f : Fault) (old mid new : Outside) → Explores s.disks s.images s.base (placements s.most s.within) table
+    → AreForced are_forced s.disks s.images s.base (placements s.most s.within)
+    → mid ≡ counted (appended old Out (table_text true are_forced s.most s.within table)) mid.faults → old.faults ≤ mid.faults → StopsIn [] (found_file s.found s.outcome s.base table) f mid new → Searches s (Some f) old new
+file_stops s are_forced table f old mid new explores forced is later stops =
+    stops_so s are_forced table f old new explores forced (sends_before (table_text true are_forced s.most s.within table) (found_file s.found s.outcome s.base table) old mid new is later stops.sends)
     (breaks_later f old.faults mid.faults new.faults later stops.cause)
 
 -- the table was sent; then the file was written, or that was broken off
-pub file_ends : {T : Type 0} (s : Searched) (table one two : List Row) (r : Result T Fault) (old mid new : Outside)
-    → Explores s.disks s.images s.base (placements s.most s.within) table → one ≡ table → two ≡ table
-    → mid ≡ counted (appended old Out (table_text true s.most s.within one)) mid.faults → old.faults ≤ mid.faults
+pub file_ends : {T : Type 0} (s : Searched) (are_forced : Bool) (table one two : List Row) (r : Result T Fault) (old mid new : Outside)
+    → Explores s.disks s.images s.base (placements s.most s.within) table → AreForced are_forced s.disks s.images s.base (placements s.most s.within) → one ≡ table → two ≡ table
+    → mid ≡ counted (appended old Out (table_text true are_forced s.most s.within one)) mid.faults → old.faults ≤ mid.faults
     → MatchResult r (λ _. new ≡ counted (with_file mid (found_file s.found s.outcome s.base two)) new.faults) (λ f. StopsIn [] (found_file s.found s.outcome s.base two) f mid new)
     → Searches s (ended_by r) old new
-file_ends s table one two (Ok x) old mid new explores first second sent later written =
-    finds s table old mid new explores
-    (sent ∙ ap (λ (t : List Row). counted (appended old Out (table_text true s.most s.within t)) mid.faults) first)
+file_ends s are_forced table one two (Ok x) old mid new explores forced first second sent later written =
+    finds s are_forced table old mid new explores forced
+    (sent ∙ ap (λ (t : List Row). counted (appended old Out (table_text true are_forced s.most s.within t)) mid.faults) first)
     (written ∙ ap (λ (t : List Row). counted (with_file mid (found_file s.found s.outcome s.base t)) new.faults) second)
-file_ends s table one two (Err f) old mid new explores first second sent later stops =
-    file_stops s table f old mid new explores
-    (sent ∙ ap (λ (t : List Row). counted (appended old Out (table_text true s.most s.within t)) mid.faults) first) later
+file_ends s are_forced table one two (Err f) old mid new explores forced first second sent later stops =
+    file_stops s are_forced table f old mid new explores forced
+    (sent ∙ ap (λ (t : List Row). counted (appended old Out (table_text true are_forced s.most s.within t)) mid.faults) first) later
     (subst (λ (t : List Row). StopsIn [] (found_file s.found s.outcome s.base t) f mid new) second stops)
 
 -- memory ran out, and the table so far was sent, or a part of it
 pub some_ends : {T : Type 0} (s : Searched) (table one : List Row) (r : Result T Fault) (old new : Outside)
     → ExploresSome s.disks s.images s.base (placements s.most s.within) table → one ≡ table
-    → MatchResult r (λ _. new ≡ counted (appended old Out (table_text false s.most s.within one)) new.faults) (λ f. StopsIn (table_text false s.most s.within one) None f old new)
+    → MatchResult r (λ _. new ≡ counted (appended old Out (table_text false false s.most s.within one)) new.faults) (λ f. StopsIn (table_text false false s.most s.within one) None f old new)
     → old.faults ≤ new.faults → BreaksOff s old new
 some_ends s table one (Ok x) old new explores same sent later = record {
   are_all = false;
   table = table;
   explores = explores;
-  sends = subst (λ (t : List Row). SendsPart (table_text false s.most s.within t) None old new) same (sends_whole (table_text false s.most s.within one) None old new sent later);
+  are_forced = false;
+  forced = none_forced s;
+  sends = subst (λ (t : List Row). SendsPart (table_text false false s.most s.within t) None old new) same (sends_whole (table_text false false s.most s.within one) None old new sent later);
 }
 some_ends s table one (Err f) old new explores same stops later = record {
   are_all = false;
   table = table;
   explores = explores;
-  sends = subst (λ (t : List Row). SendsPart (table_text false s.most s.within t) None old new) same stops.sends;
+  are_forced = false;
+  forced = none_forced s;
+  sends = subst (λ (t : List Row). SendsPart (table_text false false s.most s.within t) None old new) same stops.sends;
 }
 
 -- the schedule is too long, or memory ran out
@@ -197,11 +214,11 @@ unwritten_ends s (Some name) (Some fault.TooLong) old new is searches = searches
 unwritten_ends s (Some name) (Some fault.TooFar) old new is searches = searches
 
 -- the table was sent; then the file was written, or that was broken off, and the file is named if it couldn't be written
-pub named_ends : {T : Type 0} (s : Searched) (table one two : List Row) (r : Result T Fault) (ended : Option Fault) (found : Option (Bor (List ℕ))) (old mid new : Outside)
+pub named_ends : {T : Type 0} (s : Searched) (are_forced : Bool) (table one two : List Row) (r : Result T Fault) (ended : Option Fault) (found : Option (Bor (List ℕ))) (old mid new : Outside)
     → s.found ≡ option_map (λ n. n.now) found → ended ≡ unwritten found (ended_by r)
-    → Explores s.disks s.images s.base (placements s.most s.within) table → one ≡ table → two ≡ table
-    → mid ≡ counted (appended old Out (table_text true s.most s.within one)) mid.faults → old.faults ≤ mid.faults
+    → Explores s.disks s.images s.base (placements s.most s.within) table → AreForced are_forced s.disks s.images s.base (placements s.most s.within) → one ≡ table → two ≡ table
+    → mid ≡ counted (appended old Out (table_text true are_forced s.most s.within one)) mid.faults → old.faults ≤ mid.faults
     → MatchResult r (λ _. new ≡ counted (with_file mid (found_file s.found s.outcome s.base two)) new.faults) (λ f. StopsIn [] (found_file s.found s.outcome s.base two) f mid new)
     → Searches s ended old new
-named_ends s table one two r ended found old mid new named is explores first second sent later written =
-    subst (λ (e : Option Fault). Searches s e old new) (sym is) (unwritten_ends s found (ended_by r) old new named (file_ends s table one two r old mid new explores first second sent later written))
+named_ends s are_forced table one two r ended found old mid new named is explores forced first second sent later written =
+    subst (λ (e : Option Fault). Searches s e old new) (sym is) (unwritten_ends s found (ended_by r) old new named (file_ends s are_forced table one two r old mid new explores forced first second sent later written))

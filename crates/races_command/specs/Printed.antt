@@ -31,20 +31,21 @@ unfoldable pub rows_text : ℕ → List Row → List ℕ
 rows_text number [] = []
 rows_text number (row ∷ table) = row_text number row ++ rows_text (number + 1) table
 
--- whether all placements were gone through
-abbrev pub began : Bool → List ℕ
-began are_all = if are_all then codes "a run of each of " else codes "out of memory after runs of "
+-- whether all placements were gone through, and whether nothing was chosen, so that there are no other runs of them
+abbrev pub began : Bool → Bool → List ℕ
+began are_all are_forced =
+    if are_all then (if are_forced then codes "every run of each of " else codes "a run of each of ") else codes "out of memory after runs of "
 
 -- which placements are gone through
 unfoldable pub bounds_text : ℕ → ℕ → List ℕ
 bounds_text most within = codes ", with at most " ++ number_of most (codes "preemption") ++ codes " in the first " ++ number_of within (codes "step")
 
 -- the last line: how many schedules were run, which, and how many outcomes there are
-unfoldable pub last_line : Bool → ℕ → ℕ → ℕ → ℕ → List ℕ
-last_line are_all runs most within outcomes =
-    began are_all ++ number_of runs (codes "schedule") ++ bounds_text most within ++ codes ": " ++ number_of outcomes (codes "outcome") ++ codes "\n"
+unfoldable pub last_line : Bool → Bool → ℕ → ℕ → ℕ → ℕ → List ℕ
+last_line are_all are_forced runs most within outcomes =
+    began are_all are_forced ++ number_of runs (codes "schedule") ++ bounds_text most within ++ codes ": " ++ number_of outcomes (codes "outcome") ++ codes "\n"
 
 -- the table of the placements with at most so many quantum ends within so many steps, or of the first of them
-unfoldable pub table_text : Bool → ℕ → ℕ → List Row → List ℕ
-table_text are_all most within table =
-    rows_text 1 table ++ last_line are_all (sum (map (λ row. row.count) table)) most within (length table)
+unfoldable pub table_text : Bool → Bool → ℕ → ℕ → List Row → List ℕ
+table_text are_all are_forced most within table =
+    rows_text 1 table ++ last_line are_all are_forced (sum (map (λ row. row.count) table)) most within (length table)

@@ -8,6 +8,7 @@ use Rattle.host_port.specs.declared.host.Channel.TheVariants.{Out, Image}
 use Rattle.preemptions.specs.Placements.{placements}
 use Rattle.preemptions.specs.Preempted.{preempted_at}
 use Rattle.race_runs.specs.Explored.{Explores, ExploresSome}
+use Rattle.race_runs.specs.Forced.{AreForced}
 use Rattle.race_tables.specs.Rows.{Row}
 use Rattle.run_inputs.specs.declared.causes.Cause.TheVariants as cause
 use Rattle.run_inputs.specs.declared.refusals.Refusal.TheVariants as refusal
@@ -45,11 +46,13 @@ abbrev pub with_file : Outside → Option (Text × List ℕ) → Outside
 with_file h None = h
 with_file h (Some file) = appended (with_calls (made_empty h Image) (naming Image file.0 ∷ [])) Image file.1
 
--- All placements were gone through, and their table was sent.
+-- All placements were gone through, and their table was sent: it says *every run* only if nothing was chosen.
 pub record Finds (s : Searched) (old new : Outside) : Type 0 where
   pub table : List Row
   pub explores : Explores s.disks s.images s.base (placements s.most s.within) table
-  pub sent : new ≡ counted (with_file (appended old Out (table_text true s.most s.within table)) (found_file s.found s.outcome s.base table)) new.faults
+  pub are_forced : Bool
+  pub forced : AreForced are_forced s.disks s.images s.base (placements s.most s.within)
+  pub sent : new ≡ counted (with_file (appended old Out (table_text true are_forced s.most s.within table)) (found_file s.found s.outcome s.base table)) new.faults
 
 -- The table is that of all placements, or of the first of them.
 abbrev pub IsTable : Bool → Searched → List Row → Type 0
@@ -97,7 +100,9 @@ pub record BreaksOff (s : Searched) (old new : Outside) : Type 0 where
   pub are_all : Bool
   pub table : List Row
   pub explores : IsTable are_all s table
-  pub sends : SendsPart (table_text are_all s.most s.within table) (file_after are_all s table) old new
+  pub are_forced : Bool
+  pub forced : AreForced are_forced s.disks s.images s.base (placements s.most s.within)
+  pub sends : SendsPart (table_text are_all are_forced s.most s.within table) (file_after are_all s table) old new
 
 -- The search ended so. If the images don't boot, nothing was done; the host failed only if the count of faults rose, and a file that can't be written
 -- is the one for the schedule of a row.

@@ -147,9 +147,17 @@ fn search<'a, H: Host, P: Progress>(
     match explore(
         alloc, images, disk0, disk1, base, most, within, &mut table, progress,
     ) {
-        Ok(()) => {
+        Ok(are_forced) => {
             progress.end();
-            match send_table(alloc, table.as_slice(), most, within, true, host) {
+            match send_table(
+                alloc,
+                table.as_slice(),
+                most,
+                within,
+                true,
+                are_forced,
+                host,
+            ) {
                 Ok(()) => {}
                 Err(fault) => return Err(fault),
             }
@@ -167,7 +175,7 @@ fn search<'a, H: Host, P: Progress>(
         }
         Err(BootFault::NoMemory) => {
             progress.end();
-            let _ = send_table(alloc, table.as_slice(), most, within, false, host);
+            let _ = send_table(alloc, table.as_slice(), most, within, false, false, host);
             Err(NO_MEMORY)
         }
         Err(fault) => Err(Fault::Refused(Cause::Refused(Refusal::from(fault)))),

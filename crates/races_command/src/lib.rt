@@ -6,7 +6,7 @@
 //!
 //! | Call | Promise |
 //! |---|---|
-//! | [`races`] | `answers`: the table of runs of all placements is sent, over the inputs that the files gave, and the schedule of the row that is asked for is written; each other status has its cause, and its text is sent (`Answers` in `specs/Theorem.antt`) |
+//! | [`races`] | `answers`: the table of runs of all placements is sent, over the inputs that the files gave, and says *every run* only if nothing was chosen in them; the schedule of the row that is asked for is written; each other status has its cause, and its text is sent (`Answers` in `specs/Theorem.antt`) |
 //! | [`events_of`] | `events`: the events of a schedule; `cause`: refused if and only if there are more than 1000000, or out of memory |
 //! | [`judge`] | `judged`: the numbers are accepted as they are asked for, or refused for the cause that the fault says |
 //! | [`schedule_of`] | `text`, `reads`: the file that is written for a row, which reads as the base's events with its first placement |

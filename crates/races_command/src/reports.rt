@@ -20,7 +20,7 @@ use schedule_text::schedule_text;
 use std::alloc::Global;
 use xinu_base::{Event, NoMemory};
 
-/// Sends a table: of all placements, or of the first of them.
+/// Sends a table: of all placements, or of the first of them; and whether nothing was chosen in their runs.
 ///
 /// # Errors
 /// Out of memory; the host failed.
@@ -30,13 +30,14 @@ pub(crate) fn send_table<H: Host>(
     most: u32,
     within: u32,
     are_all: bool,
+    are_forced: bool,
     host: &mut H,
 ) -> Result<(), Fault<'static>>
     requires fits { sum (map (λ row. row.count) table.now) < 18446744073709551616 }
-    ensures sends { MatchResult result (λ _. H.view host.new ≡ counted (appended (H.view host.old) channel.Out (printed.table_text are_all most within table.now)) (H.view host.new).faults) (λ fault. spec.StopsIn (printed.table_text are_all most within table.now) None fault (H.view host.old) (H.view host.new)) }
+    ensures sends { MatchResult result (λ _. H.view host.new ≡ counted (appended (H.view host.old) channel.Out (printed.table_text are_all are_forced most within table.now)) (H.view host.new).faults) (λ fault. spec.StopsIn (printed.table_text are_all are_forced most within table.now) None fault (H.view host.old) (H.view host.new)) }
     ensures later { (H.view host.old).faults ≤ (H.view host.new).faults }
 {
-    let Ok(text) = table_text(alloc, table, most, within, are_all) else {
+    let Ok(text) = table_text(alloc, table, most, within, are_all, are_forced) else {
         return Err(NO_MEMORY);
     };
     match host.emit(Channel::Out, text.as_slice()) {

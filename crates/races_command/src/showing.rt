@@ -10,7 +10,8 @@ use crate::texts::{push_listed, push_number, push_number_of, push_places};
 use race_tables::{Outcome, Row};
 use std::alloc::{AllocError, Global};
 
-/// The table of the placements with at most `most` quantum ends within `within` steps, or of the first of them.
+/// The table of the placements with at most `most` quantum ends within `within` steps, or of the first of them. It says *every run* if nothing was
+/// chosen in them.
 ///
 /// # Errors
 /// Out of memory.
@@ -21,14 +22,23 @@ pub(crate) fn table_text(
     most: u32,
     within: u32,
     are_all: bool,
+    are_forced: bool,
 ) -> Result<Vec<u8>, AllocError>
     requires fits { sum (map (λ row. row.count) table.now) < 18446744073709551616 }
-    ensures text { IfOk result (λ text. text.items ≡ spec.table_text are_all most within table.now) }
+    ensures text { IfOk result (λ text. text.items ≡ spec.table_text are_all are_forced most within table.now) }
 {
     let mut text = Vec::new(alloc);
     push_rows(&mut text, table)?;
     let runs = runs_in(table);
-    push_last(&mut text, runs, most, within, table.len() as u64, are_all)?;
+    push_last(
+        &mut text,
+        runs,
+        most,
+        within,
+        table.len() as u64,
+        are_all,
+        are_forced,
+    )?;
     Ok(text)
 }
 
@@ -102,10 +112,11 @@ fn push_last(
     within: u32,
     outcomes: u64,
     are_all: bool,
+    are_forced: bool,
 ) -> Result<(), AllocError>
-    ensures last { OnOk result (text.new.items ≡ text.old.items ++ spec.last_line are_all runs most within outcomes) }
+    ensures last { OnOk result (text.new.items ≡ text.old.items ++ spec.last_line are_all are_forced runs most within outcomes) }
 {
-    push_began(text, are_all)?;
+    push_began(text, are_all, are_forced)?;
     push_number_of(text, runs, "schedule")?;
     push_bounds(text, most, within)?;
     text.extend_from_slice(b": ")?;
@@ -126,13 +137,16 @@ fn push_bounds(text: &mut Vec<u8>, most: u32, within: u32) -> Result<(), AllocEr
 }
 
 // Appends how the last line begins.
-fn push_began(text: &mut Vec<u8>, are_all: bool) -> Result<(), AllocError>
-    ensures began { OnOk result (text.new.items ≡ text.old.items ++ spec.began are_all) }
+fn push_began(text: &mut Vec<u8>, are_all: bool, are_forced: bool) -> Result<(), AllocError>
+    ensures began { OnOk result (text.new.items ≡ text.old.items ++ spec.began are_all are_forced) }
 {
-    if are_all {
-        return text.extend_from_slice(b"a run of each of ");
+    if !are_all {
+        return text.extend_from_slice(b"out of memory after runs of ");
     }
-    text.extend_from_slice(b"out of memory after runs of ")
+    if are_forced {
+        return text.extend_from_slice(b"every run of each of ");
+    }
+    text.extend_from_slice(b"a run of each of ")
 }
 
 // How many runs a table counts.

@@ -14,8 +14,10 @@
 #![tactic(auto)]
 
 mod progress;
+mod terminals;
 
 use crate::progress::Terminal;
+use crate::terminals::{STANDARD_INPUT, is_terminal};
 use explain_command::explain;
 use gdb_command::debug;
 use host_port::{Host, RealHost};
@@ -29,6 +31,10 @@ use std::process::ExitCode;
 use std::rt::Env;
 use timeline_command::timeline;
 use xinu_commands::xinu;
+
+/// What is said to somebody who types `xinu_run gdb` at a terminal.
+const WAITS: &str =
+    "gdb starts this command and sends it packets: (gdb) target remote | xinu_run gdb --schedule FILE IMAGE ..";
 
 fn main(rt: HostRuntime) -> ExitCode {
     let alloc = rt.alloc();
@@ -47,6 +53,9 @@ fn main(rt: HostRuntime) -> ExitCode {
         let _ = rt.eprintln("xinu: no memory");
         return ExitCode::from(7);
     };
+    if asks_for_gdb(args.as_slice()) && is_terminal(&terminal, STANDARD_INPUT) {
+        let _ = terminal.eprintln(WAITS);
+    }
     let mut progress = Terminal::new(terminal);
     let mut host = RealHost::new(rt);
     let status = carry_out(
@@ -67,6 +76,14 @@ fn args_of<R: Env + AllocGlobal>(alloc: Global, rt: &R) -> io::Result<Vec<String
         args.push(arg)?;
     }
     Ok(args)
+}
+
+// Whether the first argument names the command that serves a debugger.
+fn asks_for_gdb(args: &[String]) -> bool {
+    match args {
+        [first, ..] => first.as_str() == "gdb",
+        [] => false,
+    }
 }
 
 // Carries out the command that the first argument names.

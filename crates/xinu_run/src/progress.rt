@@ -1,7 +1,7 @@
 //! How far a search has come, on standard error.
 
+use crate::terminals::{STANDARD_ERROR, is_terminal};
 use races_command::Progress;
-use std::path::Path;
 use std::rt::Runtime;
 use std::time::Instant;
 
@@ -25,20 +25,12 @@ impl<R: Runtime> Terminal<R> {
             last: None,
         }
     }
-
-    // Whether standard error is a terminal, by the file that it is (Linux, proc(5)).
-    fn is_read(&self) -> bool {
-        match Path::new("/proc/self/fd/2").read_link(&self.rt) {
-            Ok(file) => file.starts_with("/dev/pts") || file.starts_with("/dev/tty"),
-            Err(_) => false,
-        }
-    }
 }
 
 impl<R: Runtime> Progress for Terminal<R> {
     fn begin(&mut self, all: u64) {
         self.all = all;
-        if self.is_read() {
+        if is_terminal(&self.rt, STANDARD_ERROR) {
             self.last = Instant::now(&self.rt).ok();
         }
     }

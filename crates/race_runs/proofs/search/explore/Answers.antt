@@ -1,9 +1,14 @@
 -- One placement more.
-use Rattle.std.proofs.Common.{rules, List, ℕ, map, drop, sym, subst, arith}
+use Rattle.std.proofs.Common.{rules, ◌≡◌, ◌∙◌, true, ◌&&◌, List, ℕ, ap, map, drop, sym, subst, arith}
 use Rattle.given_disks.specs.Disks.{disks_of}
 use Rattle.image_loader.specs.Images.{loaded_of}
 use Rattle.preemptions.proofs.Members.{all_placements}
 use Rattle.preemptions.specs.Placements.{IsPlacement, placements}
+use Rattle.preemptions.specs.Preempted.{preempted_at}
+use Rattle.race_runs.specs.Forced.{ForcesOn}
+use Rattle.race_runs.specs.Runs.{ComesToOn}
+use Rattle.xinu_base.specs.declared.events.Event.{Event}
+use Rattle.race_runs.proofs.search.explore.Goals.{then-are_forced, else-are_forced}
 use Rattle.std.specs.List.{All}
 use Rattle.race_tables.specs.Rows.{Row}
 use Rattle.race_runs.proofs.Exploring.{UnderWay, counts_fit, some-under_way, through_parts, under_way-first, under_way-more, under_way-start}
@@ -17,8 +22,8 @@ loop-places-init g c =
     let base = c.args.base.now in
     let all = placements c.args.most c.args.within in
     record {
-      under_way = subst (λ (left : List (List ℕ)). UnderWay disks images base c.args.most c.args.within all left c.args.table.now.items) (sym c.new-left.ensures.all)
-          (under_way-start disks images base c.args.most c.args.within all c.args.table.now.items c.requires.empty (all_placements c.args.most c.args.within));
+      under_way = subst (λ (left : List (List ℕ)). UnderWay true disks images base c.args.most c.args.within all left c.args.table.now.items) (sym c.new-left.ensures.all)
+          (under_way-start true disks images base c.args.most c.args.within all c.args.table.now.items c.requires.empty (all_placements c.args.most c.args.within));
       known_back = search rules;
     }
 
@@ -40,11 +45,18 @@ loop-places-preserved g c =
     let base = c.args.base.now in
     let all = placements c.args.most c.args.within in
     let next = c.count_run.new.table.items in
+    let forces : ForcesOn c.in-Ok.ran.is_forced disks images (preempted_at c.in-Some.places.now base) =
+    through_parts (λ (events : List Event). ForcesOn c.in-Ok.ran.is_forced disks images events) disks images base _ _ c.args.most c.args.within _ all l.left (drop 1 l.left) l.table.items c.in-Some.places.now
+    l.invariant.under_way c.in-Some.ensures.first c.cut_of-cut.ensures.parts c.split_at.ensures.front c.split_at.ensures.back c.in-Ok.ensures.forced in
+    let both : c.if-are_forced.are_forced ≡ (l.are_forced && c.in-Ok.ran.is_forced) = elim c.if-are_forced.branch [
+      | then-are_forced w ↦ w.are_forced-is ∙ sym (ap (λ b. b && c.in-Ok.ran.is_forced) w.if-are_forced.true)
+      | else-are_forced w ↦ w.are_forced-is ∙ w.if-are_forced.false ∙ sym (ap (λ b. b && c.in-Ok.ran.is_forced) w.if-are_forced.false)
+    ] in
     record {
-      under_way = subst (λ (left : List (List ℕ)). UnderWay disks images base c.args.most c.args.within all left next) (sym c.in-Ok-advance.ensures.next)
-          (under_way-more disks images base c.args.most c.args.within all l.left (drop 1 l.left) l.table.items c.in-Some.places.now c.in-Ok.outcome next
-          l.invariant.under_way c.in-Some.ensures.first (through_parts disks images base _ _ c.args.most c.args.within _ all l.left (drop 1 l.left) l.table.items c.in-Some.places.now c.in-Ok.outcome
-          l.invariant.under_way c.in-Some.ensures.first c.cut_of-cut.ensures.parts c.split_at.ensures.front c.split_at.ensures.back c.in-Ok.ensures.comes) c.in-Ok-count_run.ensures.added);
+      under_way = subst (λ (left : List (List ℕ)). UnderWay c.if-are_forced.are_forced disks images base c.args.most c.args.within all left next) (sym c.in-Ok-advance.ensures.next)
+          (under_way-more c.in-Ok.ran.is_forced c.if-are_forced.are_forced disks images base c.args.most c.args.within all l.left (drop 1 l.left) l.table.items c.in-Some.places.now c.in-Ok.ran.outcome next
+          l.invariant.under_way c.in-Some.ensures.first (through_parts (λ (events : List Event). ComesToOn disks images events c.in-Ok.ran.outcome) disks images base _ _ c.args.most c.args.within _ all l.left (drop 1 l.left) l.table.items c.in-Some.places.now
+          l.invariant.under_way c.in-Some.ensures.first c.cut_of-cut.ensures.parts c.split_at.ensures.front c.split_at.ensures.back c.in-Ok.ensures.comes) c.in-Ok-count_run.ensures.added forces both);
       known_back = search rules;
     }
 
@@ -56,10 +68,17 @@ returns-in-Err-advance-clause-explores g c =
     let base = c.args.base.now in
     let all = placements c.args.most c.args.within in
     let next = c.count_run.new.table.items in
+    let forces : ForcesOn c.in-Ok.ran.is_forced disks images (preempted_at c.in-Some.places.now base) =
+    through_parts (λ (events : List Event). ForcesOn c.in-Ok.ran.is_forced disks images events) disks images base _ _ c.args.most c.args.within _ all l.left (drop 1 l.left) l.table.items c.in-Some.places.now
+    l.invariant.under_way c.in-Some.ensures.first c.cut_of-cut.ensures.parts c.split_at.ensures.front c.split_at.ensures.back c.in-Ok.ensures.forced in
+    let both : c.if-are_forced.are_forced ≡ (l.are_forced && c.in-Ok.ran.is_forced) = elim c.if-are_forced.branch [
+      | then-are_forced w ↦ w.are_forced-is ∙ sym (ap (λ b. b && c.in-Ok.ran.is_forced) w.if-are_forced.true)
+      | else-are_forced w ↦ w.are_forced-is ∙ w.if-are_forced.false ∙ sym (ap (λ b. b && c.in-Ok.ran.is_forced) w.if-are_forced.false)
+    ] in
     some-under_way disks images base c.args.most c.args.within all (drop 1 l.left) next
-    (under_way-more disks images base c.args.most c.args.within all l.left (drop 1 l.left) l.table.items c.in-Some.places.now c.in-Ok.outcome next
-    l.invariant.under_way c.in-Some.ensures.first (through_parts disks images base _ _ c.args.most c.args.within _ all l.left (drop 1 l.left) l.table.items c.in-Some.places.now c.in-Ok.outcome
-    l.invariant.under_way c.in-Some.ensures.first c.cut_of-cut.ensures.parts c.split_at.ensures.front c.split_at.ensures.back c.in-Ok.ensures.comes) c.in-Ok-count_run.ensures.added)
+    (under_way-more c.in-Ok.ran.is_forced c.if-are_forced.are_forced disks images base c.args.most c.args.within all l.left (drop 1 l.left) l.table.items c.in-Some.places.now c.in-Ok.ran.outcome next
+    l.invariant.under_way c.in-Some.ensures.first (through_parts (λ (events : List Event). ComesToOn disks images events c.in-Ok.ran.outcome) disks images base _ _ c.args.most c.args.within _ all l.left (drop 1 l.left) l.table.items c.in-Some.places.now
+    l.invariant.under_way c.in-Some.ensures.first c.cut_of-cut.ensures.parts c.split_at.ensures.front c.split_at.ensures.back c.in-Ok.ensures.comes) c.in-Ok-count_run.ensures.added forces both)
 
 pub returns-in-Err-advance-clause-first : goal.returns-in-Err-advance-clause-first
 returns-in-Err-advance-clause-first g c =
@@ -69,10 +88,17 @@ returns-in-Err-advance-clause-first g c =
     let base = c.args.base.now in
     let all = placements c.args.most c.args.within in
     let next = c.count_run.new.table.items in
+    let forces : ForcesOn c.in-Ok.ran.is_forced disks images (preempted_at c.in-Some.places.now base) =
+    through_parts (λ (events : List Event). ForcesOn c.in-Ok.ran.is_forced disks images events) disks images base _ _ c.args.most c.args.within _ all l.left (drop 1 l.left) l.table.items c.in-Some.places.now
+    l.invariant.under_way c.in-Some.ensures.first c.cut_of-cut.ensures.parts c.split_at.ensures.front c.split_at.ensures.back c.in-Ok.ensures.forced in
+    let both : c.if-are_forced.are_forced ≡ (l.are_forced && c.in-Ok.ran.is_forced) = elim c.if-are_forced.branch [
+      | then-are_forced w ↦ w.are_forced-is ∙ sym (ap (λ b. b && c.in-Ok.ran.is_forced) w.if-are_forced.true)
+      | else-are_forced w ↦ w.are_forced-is ∙ w.if-are_forced.false ∙ sym (ap (λ b. b && c.in-Ok.ran.is_forced) w.if-are_forced.false)
+    ] in
     under_way-first disks images base c.args.most c.args.within (drop 1 l.left) next
-    (under_way-more disks images base c.args.most c.args.within all l.left (drop 1 l.left) l.table.items c.in-Some.places.now c.in-Ok.outcome next
-    l.invariant.under_way c.in-Some.ensures.first (through_parts disks images base _ _ c.args.most c.args.within _ all l.left (drop 1 l.left) l.table.items c.in-Some.places.now c.in-Ok.outcome
-    l.invariant.under_way c.in-Some.ensures.first c.cut_of-cut.ensures.parts c.split_at.ensures.front c.split_at.ensures.back c.in-Ok.ensures.comes) c.in-Ok-count_run.ensures.added)
+    (under_way-more c.in-Ok.ran.is_forced c.if-are_forced.are_forced disks images base c.args.most c.args.within all l.left (drop 1 l.left) l.table.items c.in-Some.places.now c.in-Ok.ran.outcome next
+    l.invariant.under_way c.in-Some.ensures.first (through_parts (λ (events : List Event). ComesToOn disks images events c.in-Ok.ran.outcome) disks images base _ _ c.args.most c.args.within _ all l.left (drop 1 l.left) l.table.items c.in-Some.places.now
+    l.invariant.under_way c.in-Some.ensures.first c.cut_of-cut.ensures.parts c.split_at.ensures.front c.split_at.ensures.back c.in-Ok.ensures.comes) c.in-Ok-count_run.ensures.added forces both)
 
 pub returns-in-Err-clause-first : goal.returns-in-Err-clause-first
 returns-in-Err-clause-first g c =

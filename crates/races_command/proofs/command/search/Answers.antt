@@ -12,13 +12,13 @@ send_table-requires g c = record {
 
 pub returns-in-Ok : goal.returns-in-Ok
 returns-in-Ok g c = record {
-  searches = named_ends _ _ _ _ c.write_found-written.result _ c.args.found _ _ _ refl c.or_unwritten.ensures.named c.in-Ok.ensures.explores c.as_slice.ensures.value c.as_slice-in-Ok.ensures.value
+  searches = named_ends _ c.in-Ok.are_forced _ _ _ c.write_found-written.result _ c.args.found _ _ _ refl c.or_unwritten.ensures.named c.in-Ok.ensures.explores c.in-Ok.ensures.forced c.as_slice.ensures.value c.as_slice-in-Ok.ensures.value
       c.in-Ok-send_table.ensures.sends c.send_table.ensures.later c.write_found-written.ensures.writes;
 }
 
 pub returns-in-Err-send_table : goal.returns-in-Err-send_table
 returns-in-Err-send_table g c = record {
-  searches = table_stops _ _ _ c.in-Err-send_table.fault _ _ c.in-Ok.ensures.explores c.as_slice.ensures.value c.in-Err-send_table.ensures.sends;
+  searches = table_stops _ c.in-Ok.are_forced _ _ c.in-Err-send_table.fault _ _ c.in-Ok.ensures.explores c.in-Ok.ensures.forced c.as_slice.ensures.value c.in-Err-send_table.ensures.sends;
 }
 
 pub send_table-requires-in-Err-NoMemory : goal.send_table-requires-in-Err-NoMemory

@@ -1,0 +1,60 @@
+-- What is noted, after one event more.
+use Rattle.std.proofs.Common.{◌≡◌, ◌∙◌, ℕ, suc, List, [], ◌∷◌, refl, sym, subst, ap, arith, inl, inr}
+use Rattle.std.specs.Prelude.{length, slice_get, Option, Some}
+use Rattle.explain_command.specs.Passing.{HasNoted, Passes, TakesNext}
+use Rattle.memory_strays.specs.Strays.{Noted, note_event, noted, nothing_noted}
+use Rattle.replayed_run.specs.Progress.{TakesEvent, TakesSteps}
+use Rattle.replayed_run.specs.Replayed.{Replayed}
+use Rattle.xinu_base.specs.declared.events.Event.{Event}
+use Rattle.xinu_model.specs.Machine.{Xinu}
+
+-- the events stay, and one more is taken
+next_taken : (old new : Replayed) → TakesNext old new → new.taken ≡ suc old.taken
+next_taken old new (inl (printed, t)) = ap (λ (r : Replayed). r.taken) t.changes ∙ (omega arith)
+next_taken old new (inr t) = ap (λ (r : Replayed). r.taken) t.changes ∙ (omega arith)
+
+next_events : (old new : Replayed) → TakesNext old new → new.events ≡ old.events
+next_events old new (inl (printed, t)) = ap (λ (r : Replayed). r.events) t.changes
+next_events old new (inr t) = ap (λ (r : Replayed). r.events) t.changes
+
+-- what is noted of one state more
+noted_more : (events : List Event) (s : Xinu) (earlier : List Xinu)
+    → noted events (s ∷ earlier) ≡ note_event (slice_get events (length earlier)) (length earlier) s (noted events earlier)
+unfolding noted
+noted_more events s earlier = refl
+
+passed_more : (old mid new : Replayed) (states : List Xinu) → Passes old states mid → TakesNext mid new → Passes old (mid.state ∷ states) new
+unfolding Passes
+passed_more old mid new states before takes = record { mid = mid; before = before; state = refl; takes = takes }
+
+pub noted_next : (old mid new : Replayed) (x : Noted) → HasNoted old mid x → TakesNext mid new
+    → HasNoted old new (note_event (slice_get mid.events mid.taken) mid.taken mid.state x)
+noted_next old mid new x so takes =
+    let events = next_events mid new takes in
+    record {
+      states = mid.state ∷ so.states;
+      passes = passed_more old mid new so.states so.passes takes;
+      many = ap suc so.many ∙ sym (next_taken mid new takes);
+      notes = ap (λ n. note_event (slice_get mid.events n) n mid.state x) (sym so.many)
+          ∙ ap (λ y. note_event (slice_get mid.events (length so.states)) (length so.states) mid.state y) so.notes
+          ∙ sym (noted_more mid.events mid.state so.states) ∙ ap (λ l. noted l (mid.state ∷ so.states)) (sym events);
+    }
+
+-- the same, of an event that is said to come next
+pub noted_after : (old mid new : Replayed) (event : Event) (x y : Noted) → HasNoted old mid x → slice_get mid.events mid.taken ≡ Some event
+    → y ≡ note_event (Some event) mid.taken mid.state x → TakesNext mid new → HasNoted old new y
+noted_after old mid new event x y so next is takes =
+    subst (λ z. HasNoted old new z) (ap (λ e. note_event e mid.taken mid.state x) next ∙ sym is) (noted_next old mid new x so takes)
+
+-- an event that was taken once no step was
+pub taken_after : (old mid new : Replayed) (printed : Option (List ℕ)) → TakesSteps 0 old mid → TakesEvent mid new printed → TakesEvent old new printed
+taken_after old mid new printed none event =
+    let same : mid ≡ record old { told = mid.told } =
+    none.changes ∙ ap (λ n. record old { taken = n; state = old.state; told = mid.told }) (omega arith) in
+    let so = subst (λ (r : Replayed). TakesEvent r new printed) same event in
+    record { event = so.event; next = so.next; happens = so.happens; changes = so.changes }
+
+-- nothing is noted at the beginning
+pub noted_none : (r : Replayed) → r.taken ≡ 0 → HasNoted r r nothing_noted
+unfolding Passes noted
+noted_none r none = record { states = []; passes = refl; many = sym none; notes = refl }
