@@ -19,7 +19,7 @@ from .telling import say
 WITHIN = {0: 1, 1: 1000, 2: 60, 3: 20}
 MOST_EVENTS = 1000000
 SLACK = 10  # rounds after those in which the program ended, for the runs that take longer
-OUTCOME = re.compile(r"outcome (\d+): (\d+) schedules?, first with preemptions after (.*)")
+OUTCOME = re.compile(r"outcome (\d+): (\d+) schedules?, first with preemptions after (none|[\d ]+)(?:, at events? [\d ]+)?")
 
 
 def base(words, programs, folder):

@@ -5,19 +5,20 @@ import { page } from "./page.js";
 import { set_schedule, show_fault } from "./panels.js";
 import { Refused, images_of, inputs, stopped_words } from "./runs.js";
 import { run } from "./running.js";
-import { event_before, events_of, with_preemptions } from "./schedules.js";
+import { events_of, with_preemptions } from "./schedules.js";
 import { guarded } from "./stepper.js";
 import { count, decimal, lines_of, text_of_hex, utf8 } from "./text.js";
 import { name_in } from "./told.js";
 import { view } from "./views.js";
 import { STATES, TRAPS } from "./words.js";
 
-// The rows of the table that `races` prints, each { number, runs, places, lines }, and its last line.
+const numbers_in = (text) => (text.match(/\d+/g) || []).map(Number);
+// The rows of the table that `races` prints, each { number, runs, places, events, lines }, and its last line.
 export function outcomes_of(text) {
 	const rows = [], lines = lines_of(text);
 	for (const line of lines) {
-		const head = /^outcome (\d+): (\d+) schedules?, first with preemptions after (.*)$/.exec(line);
-		if (head) rows.push({ number: Number(head[1]), runs: Number(head[2]), places: (head[3].match(/\d+/g) || []).map(Number), lines: [] });
+		const head = /^outcome (\d+): (\d+) schedules?, first with preemptions after (none|[\d ]+)(?:, at events? ([\d ]+))?$/.exec(line);
+		if (head) rows.push({ number: Number(head[1]), runs: Number(head[2]), places: numbers_in(head[3]), events: numbers_in(head[4] || ""), lines: [] });
 		else if (line.startsWith("  ") && rows.length) rows.at(-1).lines.push(line.trim());
 	}
 	return { rows, sum: lines.at(-1) || "" };
@@ -84,7 +85,7 @@ function take_row(base, schedule, row) {
 	$("tab-beside").hidden = page.base === null;
 	set_schedule(schedule);
 	view("step");
-	return run(row.places.length ? event_before(events_of(schedule).runs, row.places[0]) : 0);
+	return run(row.events[0] ?? 0);
 }
 export function back_to_base() {
 	set_schedule(page.base);

@@ -116,17 +116,6 @@ export function with_preemptions(runs, places) {
 	}
 	return lines.join("\n") + "\n";
 }
-// The event before the two ticks that were put after so many steps.
-export function event_before(runs, steps) {
-	let done = 0;
-	for (const run of runs) {
-		if (run.kind === "tick" && done === steps) return run.first - 1;
-		if (run.kind !== "step") continue;
-		if (done + run.n > steps) return run.first + steps - done - 1;
-		done += run.n;
-	}
-	return 0;
-}
 // How many steps there are up to an event, and the first event up to which there are so many.
 export function steps_before(runs, event) {
 	let steps = 0;

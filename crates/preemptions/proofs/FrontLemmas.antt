@@ -8,7 +8,7 @@ use Rattle.xinu_base.specs.declared.events.Event.TheVariants.{Step, Tick, Key, T
 use Rattle.preemptions.specs.Placements.{IsPlacement}
 use Rattle.preemptions.specs.Preempted.{is_step, preempted, preempted_at}
 
-count_step : (events : List Event) → count_by is_step (Step ∷ events) ≡ 1 + count_by is_step events
+pub count_step : (events : List Event) → count_by is_step (Step ∷ events) ≡ 1 + count_by is_step events
 count_step events = sum_by-cons (λ (e : Event). cond (is_step e) 1 0) Step events
 
 -- a preemption is no step
@@ -36,7 +36,7 @@ steps_kept (suc k) (Fail1 ∷ events) = steps_kept (suc k) events
 steps_kept zero (Dump ∷ events) = steps_kept zero events
 steps_kept (suc k) (Dump ∷ events) = steps_kept (suc k) events
 
-steps_kept_at : (places : List ℕ) (events : List Event) → count_by is_step (preempted_at places events) ≡ count_by is_step events
+pub steps_kept_at : (places : List ℕ) (events : List Event) → count_by is_step (preempted_at places events) ≡ count_by is_step events
 steps_kept_at [] events = refl
 steps_kept_at (k ∷ places) events = steps_kept k (preempted_at places events) ∙ steps_kept_at places events
 

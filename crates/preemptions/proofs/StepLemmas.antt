@@ -11,16 +11,16 @@ use Rattle.preemptions.specs.Passes.{preempted_after, AreAhead, Steps}
 
 -- ---- the definition, one step
 
-preempted-nil : (k : ℕ) → preempted k [] ≡ []
+pub preempted-nil : (k : ℕ) → preempted k [] ≡ []
 unfolding preempted
 preempted-nil zero = refl
 preempted-nil (suc k) = refl
 
-preempted-zero : (events : List Event) → preempted 0 (Step ∷ events) ≡ Tick ∷ Tick ∷ Step ∷ events
+pub preempted-zero : (events : List Event) → preempted 0 (Step ∷ events) ≡ Tick ∷ Tick ∷ Step ∷ events
 unfolding preempted
 preempted-zero events = refl
 
-preempted-suc : (k : ℕ) (events : List Event) → preempted (suc k) (Step ∷ events) ≡ Step ∷ preempted k events
+pub preempted-suc : (k : ℕ) (events : List Event) → preempted (suc k) (Step ∷ events) ≡ Step ∷ preempted k events
 unfolding preempted
 preempted-suc k events = refl
 
@@ -48,7 +48,7 @@ preempted-suc_other k Fail1 events other = refl
 preempted-suc_other k Dump events other = refl
 preempted-suc_other k Step events other = absurd (cc)
 
-preempted-other : (k : ℕ) (event : Event) (events : List Event) → is_step event ≡ false → preempted k (event ∷ events) ≡ event ∷ preempted k events
+pub preempted-other : (k : ℕ) (event : Event) (events : List Event) → is_step event ≡ false → preempted k (event ∷ events) ≡ event ∷ preempted k events
 preempted-other zero event events other = preempted-zero_other event events other
 preempted-other (suc k) event events other = preempted-suc_other k event events other
 

@@ -1,3 +1,4 @@
+pub mod Moments
 pub mod Passes
 pub mod Placements
 pub mod Preempted

@@ -1,8 +1,11 @@
 //! Laws of the definitions.
 
-ghost use Rattle.std.specs.Prelude.{◌≡◌, ◌≢◌, ℕ, List, [], ◌∷◌, drop};
-ghost use Rattle.std.specs.List.{AllPairs, Contains};
-ghost use Rattle.preemptions.specs.Placements.{IsPlacement, placements};
+ghost use Rattle.std.specs.Prelude.{◌≡◌, ◌≢◌, ◌<◌, ℕ, List, [], ◌∷◌, drop};
+ghost use Rattle.std.specs.List.{All, AllPairs, Contains, count_by};
+ghost use Rattle.preemptions.specs.Moments.{Preempts, moments};
+ghost use Rattle.preemptions.specs.Placements.{IsAscending, IsPlacement, placements};
+ghost use Rattle.preemptions.specs.Preempted.{is_step, preempted_at};
+ghost use Rattle.xinu_base.specs.declared.events.Event.{Event};
 
 /// A list is among the placements if and only if it is a placement.
 pub fn placements_are_all()
@@ -18,4 +21,10 @@ pub fn placements_differ()
 /// The first of the placements has no place.
 pub fn first_is_empty()
     ensures { (most within : ℕ) → placements most within ≡ [] ∷ drop 1 (placements most within) }
+{}
+
+/// The preemptions of a placement within the steps of a schedule come at its moments: so many events come before each, then two ticks and its step.
+pub fn preemptions_come_at_their_moments()
+    ensures { (places : List ℕ) (base : List Event) → IsAscending places → All (λ k. k < count_by is_step base) places →
+        All (λ n. Preempts n (preempted_at places base)) (moments places base) }
 {}

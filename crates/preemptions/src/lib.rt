@@ -1,7 +1,8 @@
 //! Quantum ends put into a schedule, and all the ways to place them.
 //!
 //! A placement is an ascending list of places: at place k the end of a quantum, which is two ticks, comes before the step that follows k steps of
-//! the schedule. `specs/Preempted.antt` says what a placement makes of events, and `specs/Placements.antt` which placements there are.
+//! the schedule. `specs/Preempted.antt` says what a placement makes of events, and `specs/Placements.antt` which placements there are. How many
+//! events come before each preemption is counted in `specs/Moments.antt`.
 //!
 //! | Call | Promise |
 //! |---|---|
@@ -10,6 +11,7 @@
 //! | [`Placements::advance`] | `next`: the first is taken off; at `NoMemory` all are still to come |
 //! | [`preempt`] | `events`: the events with a quantum's end at each of the places |
 //! | [`front`] | `parts`: a placement within so many steps changes the events up to the step that follows them, and none after it |
+//! | [`events_before`] | `before`: how many events come before the step that follows so many steps |
 //! | [`laws`] | a list is among the placements if and only if it is a placement; no two of them are equal; the first is the one with no place |
 //!
 //! A [`Placements`] is seen as the list of the placements still to come; it keeps one of them. The crate depends on `xinu_base` alone.
@@ -18,9 +20,11 @@
 mod events;
 mod fronts;
 pub mod laws;
+mod moments;
 mod next;
 mod placements;
 
 pub use events::preempt;
 pub use fronts::front;
+pub use moments::events_before;
 pub use placements::Placements;

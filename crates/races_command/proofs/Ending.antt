@@ -62,7 +62,7 @@ breaks_at_once s h =
       explores = record { tried = start.tried; left = placements s.most s.within; split = start.split; explores = start.explores };
       are_forced = false;
       forced = none_forced s;
-      sends = sends_nothing (table_text false false s.most s.within []) None h;
+      sends = sends_nothing (table_text false false s.most s.within s.base []) None h;
     }
 
 -- the images didn't boot
@@ -74,20 +74,20 @@ boot_ends s boot.NoMemory h is = breaks_at_once s h
 -- the table was sent, and then the file
 pub finds : (s : Searched) (are_forced : Bool) (table : List Row) (old mid new : Outside) → Explores s.disks s.images s.base (placements s.most s.within) table
     → AreForced are_forced s.disks s.images s.base (placements s.most s.within)
-    → mid ≡ counted (appended old Out (table_text true are_forced s.most s.within table)) mid.faults
+    → mid ≡ counted (appended old Out (table_text true are_forced s.most s.within s.base table)) mid.faults
     → new ≡ counted (with_file mid (found_file s.found s.outcome s.base table)) new.faults → Searches s None old new
 finds s are_forced table old mid new explores forced sent written = record {
   table = table;
   explores = explores;
   are_forced = are_forced;
   forced = forced;
-  sent = both_sent (table_text true are_forced s.most s.within table) (found_file s.found s.outcome s.base table) old mid new sent written;
+  sent = both_sent (table_text true are_forced s.most s.within s.base table) (found_file s.found s.outcome s.base table) old mid new sent written;
 }
 
 -- sending was broken off
 stops_so : (s : Searched) (are_forced : Bool) (table : List Row) (f : Fault) (old new : Outside) → Explores s.disks s.images s.base (placements s.most s.within) table
     → AreForced are_forced s.disks s.images s.base (placements s.most s.within)
-    → SendsPart (table_text true are_forced s.most s.within table) (found_file s.found s.outcome s.base table) old new → IsBreak f old.faults new.faults → Searches s (Some f) old new
+    → SendsPart (table_text true are_forced s.most s.within s.base table) (found_file s.found s.outcome s.base table) old new → IsBreak f old.faults new.faults → Searches s (Some f) old new
 stops_so s are_forced table (fault.Refused (why.Refused refusal.NoMemory)) old new explores forced sends cause = record { are_all = true; table = table; explores = explores; are_forced = are_forced; forced = forced; sends = sends }
 stops_so s are_forced table (fault.Refused (why.Refused refusal.HostFault)) old new explores forced sends cause = (record { are_all = true; table = table; explores = explores; are_forced = are_forced; forced = forced; sends = sends }, cause)
 stops_so s are_forced table (fault.Refused (why.Refused refusal.Usage)) old new explores forced sends cause = absurd cause
@@ -110,10 +110,10 @@ stops_so s are_forced table fault.TooFar old new explores forced sends cause = a
 -- sending the table was broken off
 pub table_stops : (s : Searched) (are_forced : Bool) (table one : List Row) (f : Fault) (old new : Outside) → Explores s.disks s.images s.base (placements s.most s.within) table
     → AreForced are_forced s.disks s.images s.base (placements s.most s.within)
-    → one ≡ table → StopsIn (table_text true are_forced s.most s.within one) None f old new → Searches s (Some f) old new
+    → one ≡ table → StopsIn (table_text true are_forced s.most s.within s.base one) None f old new → Searches s (Some f) old new
 table_stops s are_forced table one f old new explores forced same stops =
-    let whole = subst (λ (t : List Row). StopsIn (table_text true are_forced s.most s.within t) None f old new) same stops in
-    stops_so s are_forced table f old new explores forced (sends_with (table_text true are_forced s.most s.within table) (found_file s.found s.outcome s.base table) old new whole.sends) whole.cause
+    let whole = subst (λ (t : List Row). StopsIn (table_text true are_forced s.most s.within s.base t) None f old new) same stops in
+    stops_so s are_forced table f old new explores forced (sends_with (table_text true are_forced s.most s.within s.base table) (found_file s.found s.outcome s.base table) old new whole.sends) whole.cause
 
 -- the host failed later
 breaks_later : (f : Fault) (a b c : ℕ) → a ≤ b → IsBreak f b c → IsBreak f a c
@@ -139,30 +139,30 @@ breaks_later fault.TooFar a b c le cause = cause
 -- a file that isn't written whole leaves what was sent before it
 pub file_stops : (s : Searched) (are_forced : Bool) (table : List Row) (f : Fault) (old mid new : Outside) → Explores s.disks s.images s.base (placements s.most s.within) table
     → AreForced are_forced s.disks s.images s.base (placements s.most s.within)
-    → mid ≡ counted (appended old Out (table_text true are_forced s.most s.within table)) mid.faults → old.faults ≤ mid.faults → StopsIn [] (found_file s.found s.outcome s.base table) f mid new → Searches s (Some f) old new
+    → mid ≡ counted (appended old Out (table_text true are_forced s.most s.within s.base table)) mid.faults → old.faults ≤ mid.faults → StopsIn [] (found_file s.found s.outcome s.base table) f mid new → Searches s (Some f) old new
 file_stops s are_forced table f old mid new explores forced is later stops =
-    stops_so s are_forced table f old new explores forced (sends_before (table_text true are_forced s.most s.within table) (found_file s.found s.outcome s.base table) old mid new is later stops.sends)
+    stops_so s are_forced table f old new explores forced (sends_before (table_text true are_forced s.most s.within s.base table) (found_file s.found s.outcome s.base table) old mid new is later stops.sends)
     (breaks_later f old.faults mid.faults new.faults later stops.cause)
 
 -- the table was sent; then the file was written, or that was broken off
 pub file_ends : {T : Type 0} (s : Searched) (are_forced : Bool) (table one two : List Row) (r : Result T Fault) (old mid new : Outside)
     → Explores s.disks s.images s.base (placements s.most s.within) table → AreForced are_forced s.disks s.images s.base (placements s.most s.within) → one ≡ table → two ≡ table
-    → mid ≡ counted (appended old Out (table_text true are_forced s.most s.within one)) mid.faults → old.faults ≤ mid.faults
+    → mid ≡ counted (appended old Out (table_text true are_forced s.most s.within s.base one)) mid.faults → old.faults ≤ mid.faults
     → MatchResult r (λ _. new ≡ counted (with_file mid (found_file s.found s.outcome s.base two)) new.faults) (λ f. StopsIn [] (found_file s.found s.outcome s.base two) f mid new)
     → Searches s (ended_by r) old new
 file_ends s are_forced table one two (Ok x) old mid new explores forced first second sent later written =
     finds s are_forced table old mid new explores forced
-    (sent ∙ ap (λ (t : List Row). counted (appended old Out (table_text true are_forced s.most s.within t)) mid.faults) first)
+    (sent ∙ ap (λ (t : List Row). counted (appended old Out (table_text true are_forced s.most s.within s.base t)) mid.faults) first)
     (written ∙ ap (λ (t : List Row). counted (with_file mid (found_file s.found s.outcome s.base t)) new.faults) second)
 file_ends s are_forced table one two (Err f) old mid new explores forced first second sent later stops =
     file_stops s are_forced table f old mid new explores forced
-    (sent ∙ ap (λ (t : List Row). counted (appended old Out (table_text true are_forced s.most s.within t)) mid.faults) first) later
+    (sent ∙ ap (λ (t : List Row). counted (appended old Out (table_text true are_forced s.most s.within s.base t)) mid.faults) first) later
     (subst (λ (t : List Row). StopsIn [] (found_file s.found s.outcome s.base t) f mid new) second stops)
 
 -- memory ran out, and the table so far was sent, or a part of it
 pub some_ends : {T : Type 0} (s : Searched) (table one : List Row) (r : Result T Fault) (old new : Outside)
     → ExploresSome s.disks s.images s.base (placements s.most s.within) table → one ≡ table
-    → MatchResult r (λ _. new ≡ counted (appended old Out (table_text false false s.most s.within one)) new.faults) (λ f. StopsIn (table_text false false s.most s.within one) None f old new)
+    → MatchResult r (λ _. new ≡ counted (appended old Out (table_text false false s.most s.within s.base one)) new.faults) (λ f. StopsIn (table_text false false s.most s.within s.base one) None f old new)
     → old.faults ≤ new.faults → BreaksOff s old new
 some_ends s table one (Ok x) old new explores same sent later = record {
   are_all = false;
@@ -170,7 +170,7 @@ some_ends s table one (Ok x) old new explores same sent later = record {
   explores = explores;
   are_forced = false;
   forced = none_forced s;
-  sends = subst (λ (t : List Row). SendsPart (table_text false false s.most s.within t) None old new) same (sends_whole (table_text false false s.most s.within one) None old new sent later);
+  sends = subst (λ (t : List Row). SendsPart (table_text false false s.most s.within s.base t) None old new) same (sends_whole (table_text false false s.most s.within s.base one) None old new sent later);
 }
 some_ends s table one (Err f) old new explores same stops later = record {
   are_all = false;
@@ -178,7 +178,7 @@ some_ends s table one (Err f) old new explores same stops later = record {
   explores = explores;
   are_forced = false;
   forced = none_forced s;
-  sends = subst (λ (t : List Row). SendsPart (table_text false false s.most s.within t) None old new) same stops.sends;
+  sends = subst (λ (t : List Row). SendsPart (table_text false false s.most s.within s.base t) None old new) same stops.sends;
 }
 
 -- the schedule is too long, or memory ran out
@@ -217,7 +217,7 @@ unwritten_ends s (Some name) (Some fault.TooFar) old new is searches = searches
 pub named_ends : {T : Type 0} (s : Searched) (are_forced : Bool) (table one two : List Row) (r : Result T Fault) (ended : Option Fault) (found : Option (Bor (List ℕ))) (old mid new : Outside)
     → s.found ≡ option_map (λ n. n.now) found → ended ≡ unwritten found (ended_by r)
     → Explores s.disks s.images s.base (placements s.most s.within) table → AreForced are_forced s.disks s.images s.base (placements s.most s.within) → one ≡ table → two ≡ table
-    → mid ≡ counted (appended old Out (table_text true are_forced s.most s.within one)) mid.faults → old.faults ≤ mid.faults
+    → mid ≡ counted (appended old Out (table_text true are_forced s.most s.within s.base one)) mid.faults → old.faults ≤ mid.faults
     → MatchResult r (λ _. new ≡ counted (with_file mid (found_file s.found s.outcome s.base two)) new.faults) (λ f. StopsIn [] (found_file s.found s.outcome s.base two) f mid new)
     → Searches s ended old new
 named_ends s are_forced table one two r ended found old mid new named is explores forced first second sent later written =

@@ -5,33 +5,34 @@ use Rattle.std.proofs.lemmas.List.{append-nil, at_drop_all, drop_more}
 use Rattle.std.proofs.lemmas.List.Sums.{sum_by-cons}
 use Rattle.race_tables.specs.Rows.{Row}
 use Rattle.races_command.specs.Printed.{row_text, rows_text}
+use Rattle.xinu_base.specs.declared.events.Event.{Event}
 
 rest_at : (table : List Row) (i : ℕ) (row : Row) → i < length table → row ≡ get_or table i row → drop i table ≡ row ∷ drop (i + 1) table
 rest_at table i row inside is =
     drop_more table i row inside ∙ ap (λ (r : Row). r ∷ drop (i + 1) table) (sym is)
 
-rows_at : (number : ℕ) (row : Row) (table : List Row) → rows_text number (row ∷ table) ≡ row_text number row ++ rows_text (number + 1) table
+rows_at : (base : List Event) (number : ℕ) (row : Row) (table : List Row) → rows_text base number (row ∷ table) ≡ row_text base number row ++ rows_text base (number + 1) table
 unfolding rows_text
-rows_at number row table = refl
+rows_at base number row table = refl
 
-rows_none : (number : ℕ) → rows_text number [] ≡ []
+rows_none : (base : List Event) (number : ℕ) → rows_text base number [] ≡ []
 unfolding rows_text
-rows_none number = refl
+rows_none base number = refl
 
 -- one more row is printed
-pub rows_step : (t0 t1 all : List ℕ) (table : List Row) (i : ℕ) (row : Row) → t0 ++ rows_text (i + 1) (drop i table) ≡ all → i < length table
-    → row ≡ get_or table i row → t1 ≡ t0 ++ row_text (i + 1) row → t1 ++ rows_text (i + 1 + 1) (drop (i + 1) table) ≡ all
-rows_step t0 t1 all table i row is inside here added =
-    let rest : rows_text (i + 1) (drop i table) ≡ row_text (i + 1) row ++ rows_text (i + 1 + 1) (drop (i + 1) table) =
-    ap (rows_text (i + 1)) (rest_at table i row inside here) ∙ rows_at (i + 1) row (drop (i + 1) table) in
-    ap (λ (t : List ℕ). t ++ rows_text (i + 1 + 1) (drop (i + 1) table)) added
-    ∙ append_assoc t0 (row_text (i + 1) row) (rows_text (i + 1 + 1) (drop (i + 1) table))
+pub rows_step : (base : List Event) (t0 t1 all : List ℕ) (table : List Row) (i : ℕ) (row : Row) → t0 ++ rows_text base (i + 1) (drop i table) ≡ all → i < length table
+    → row ≡ get_or table i row → t1 ≡ t0 ++ row_text base (i + 1) row → t1 ++ rows_text base (i + 1 + 1) (drop (i + 1) table) ≡ all
+rows_step base t0 t1 all table i row is inside here added =
+    let rest : rows_text base (i + 1) (drop i table) ≡ row_text base (i + 1) row ++ rows_text base (i + 1 + 1) (drop (i + 1) table) =
+    ap (rows_text base (i + 1)) (rest_at table i row inside here) ∙ rows_at base (i + 1) row (drop (i + 1) table) in
+    ap (λ (t : List ℕ). t ++ rows_text base (i + 1 + 1) (drop (i + 1) table)) added
+    ∙ append_assoc t0 (row_text base (i + 1) row) (rows_text base (i + 1 + 1) (drop (i + 1) table))
     ∙ ap (λ (t : List ℕ). t0 ++ t) (sym rest)
     ∙ is
 
-pub rows_end : (t all : List ℕ) (table : List Row) (i : ℕ) → t ++ rows_text (i + 1) (drop i table) ≡ all → length table ≤ i → t ≡ all
-rows_end t all table i is past =
-    sym (ap (λ (s : List ℕ). t ++ s) (at_drop_all (rows_text (i + 1)) table i past) ∙ ap (λ (s : List ℕ). t ++ s) (rows_none (i + 1)) ∙ append-nil t) ∙ is
+pub rows_end : (base : List Event) (t all : List ℕ) (table : List Row) (i : ℕ) → t ++ rows_text base (i + 1) (drop i table) ≡ all → length table ≤ i → t ≡ all
+rows_end base t all table i is past =
+    sym (ap (λ (s : List ℕ). t ++ s) (at_drop_all (rows_text base (i + 1)) table i past) ∙ ap (λ (s : List ℕ). t ++ s) (rows_none base (i + 1)) ∙ append-nil t) ∙ is
 
 -- the counts of the rows that are left
 pub counts_at : (table : List Row) (i : ℕ) (row : Row) → i < length table → row ≡ get_or table i row

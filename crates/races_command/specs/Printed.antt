@@ -4,9 +4,10 @@ use Rattle.std.specs.List.{sum}
 use Rattle.std.specs.Fmt.{decimal}
 use Rattle.race_tables.specs.Outcomes.{Outcome}
 use Rattle.race_tables.specs.Rows.{Row}
-use Rattle.races_command.specs.Shown.{listed, number_of, places_text, shown_console}
+use Rattle.races_command.specs.Shown.{listed, moments_text, number_of, places_text, shown_console}
 use Rattle.races_command.specs.Stuck.{is_stuck}
 use Rattle.xinu_base.specs.Names.{end_name}
+use Rattle.xinu_base.specs.declared.events.Event.{Event}
 
 -- what is added to the end of a run that can't go on
 abbrev pub stuck_text : Bool → List ℕ
@@ -17,19 +18,20 @@ unfoldable pub outcome_text : Outcome → List ℕ
 outcome_text o =
     codes "  \"" ++ shown_console o.console ++ codes "\" end " ++ end_name o.end ++ stuck_text (is_stuck o) ++ codes "\n" ++ listed o.traps ++ listed o.left
 
--- the first line of a row with its number: how many schedules had the outcome, and the places of the first of them
-unfoldable pub head_text : ℕ → ℕ → List ℕ → List ℕ
-head_text number count places =
-    codes "outcome " ++ decimal number ++ codes ": " ++ number_of count (codes "schedule") ++ codes ", first with preemptions after" ++ places_text places ++ codes "\n"
+-- the first line of a row with its number: how many schedules had the outcome, and of the first of them the places, and when its preemptions come
+unfoldable pub head_text : List Event → ℕ → ℕ → List ℕ → List ℕ
+head_text base number count places =
+    codes "outcome " ++ decimal number ++ codes ": " ++ number_of count (codes "schedule") ++ codes ", first with preemptions after" ++ places_text places
+    ++ moments_text places base ++ codes "\n"
 
--- a row with its number
-abbrev pub row_text : ℕ → Row → List ℕ
-row_text number row = head_text number row.count row.first ++ outcome_text row.outcome
+-- a row with its number, of a base
+abbrev pub row_text : List Event → ℕ → Row → List ℕ
+row_text base number row = head_text base number row.count row.first ++ outcome_text row.outcome
 
 -- rows, numbered from this number on
-unfoldable pub rows_text : ℕ → List Row → List ℕ
-rows_text number [] = []
-rows_text number (row ∷ table) = row_text number row ++ rows_text (number + 1) table
+unfoldable pub rows_text : List Event → ℕ → List Row → List ℕ
+rows_text base number [] = []
+rows_text base number (row ∷ table) = row_text base number row ++ rows_text base (number + 1) table
 
 -- whether all placements were gone through, and whether nothing was chosen, so that there are no other runs of them
 abbrev pub began : Bool → Bool → List ℕ
@@ -45,7 +47,7 @@ unfoldable pub last_line : Bool → Bool → ℕ → ℕ → ℕ → ℕ → Lis
 last_line are_all are_forced runs most within outcomes =
     began are_all are_forced ++ number_of runs (codes "schedule") ++ bounds_text most within ++ codes ": " ++ number_of outcomes (codes "outcome") ++ codes "\n"
 
--- the table of the placements with at most so many quantum ends within so many steps, or of the first of them
-unfoldable pub table_text : Bool → Bool → ℕ → ℕ → List Row → List ℕ
-table_text are_all are_forced most within table =
-    rows_text 1 table ++ last_line are_all are_forced (sum (map (λ row. row.count) table)) most within (length table)
+-- the table of the placements with at most so many quantum ends within so many steps of a base, or of the first of them
+unfoldable pub table_text : Bool → Bool → ℕ → ℕ → List Event → List Row → List ℕ
+table_text are_all are_forced most within base table =
+    rows_text base 1 table ++ last_line are_all are_forced (sum (map (λ row. row.count) table)) most within (length table)

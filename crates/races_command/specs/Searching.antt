@@ -52,7 +52,7 @@ pub record Finds (s : Searched) (old new : Outside) : Type 0 where
   pub explores : Explores s.disks s.images s.base (placements s.most s.within) table
   pub are_forced : Bool
   pub forced : AreForced are_forced s.disks s.images s.base (placements s.most s.within)
-  pub sent : new ≡ counted (with_file (appended old Out (table_text true are_forced s.most s.within table)) (found_file s.found s.outcome s.base table)) new.faults
+  pub sent : new ≡ counted (with_file (appended old Out (table_text true are_forced s.most s.within s.base table)) (found_file s.found s.outcome s.base table)) new.faults
 
 -- The table is that of all placements, or of the first of them.
 abbrev pub IsTable : Bool → Searched → List Row → Type 0
@@ -102,7 +102,7 @@ pub record BreaksOff (s : Searched) (old new : Outside) : Type 0 where
   pub explores : IsTable are_all s table
   pub are_forced : Bool
   pub forced : AreForced are_forced s.disks s.images s.base (placements s.most s.within)
-  pub sends : SendsPart (table_text are_all are_forced s.most s.within table) (file_after are_all s table) old new
+  pub sends : SendsPart (table_text are_all are_forced s.most s.within s.base table) (file_after are_all s table) old new
 
 -- The search ended so. If the images don't boot, nothing was done; the host failed only if the count of faults rose, and a file that can't be written
 -- is the one for the schedule of a row.

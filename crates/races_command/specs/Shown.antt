@@ -1,15 +1,21 @@
 -- The parts of a printed table: numbers, the bytes that the console sent, lines.
-use Rattle.std.specs.Prelude.{◌==◌, ◌&&◌, ℕ, Bool, not, nat_le, if◌then◌else◌, List, [], ◌∷◌, ◌++◌, codes}
+use Rattle.std.specs.Prelude.{◌==◌, ◌&&◌, ℕ, Bool, not, nat_le, if◌then◌else◌, List, [], ◌∷◌, ◌++◌, codes, length}
 use Rattle.std.specs.List.{flat_map}
 use Rattle.std.specs.Fmt.{decimal}
 use Rattle.std.specs.Option.{option_map_or}
+use Rattle.preemptions.specs.Moments.{moments}
 use Rattle.schedule_file.specs.Numbers.{byte_in}
 use Rattle.text_lines.specs.Lines.{lines_of, tokens_of}
 use Rattle.xinu_base.specs.Hexadecimal.{hex_byte}
+use Rattle.xinu_base.specs.declared.events.Event.{Event}
+
+-- what is added to the name of a thing if there isn't one of it
+abbrev pub plural : ℕ → List ℕ
+plural n = if n == 1 then [] else codes "s"
 
 -- so many of a thing
 unfoldable pub number_of : ℕ → List ℕ → List ℕ
-number_of n thing = decimal n ++ codes " " ++ thing ++ (if n == 1 then [] else codes "s")
+number_of n thing = decimal n ++ codes " " ++ thing ++ plural n
 
 -- a place of a placement
 abbrev pub place_text : ℕ → List ℕ
@@ -19,6 +25,11 @@ place_text place = codes " " ++ decimal place
 unfoldable pub places_text : List ℕ → List ℕ
 places_text [] = codes " none"
 places_text (place ∷ places) = flat_map place_text (place ∷ places)
+
+-- when preemptions at these places of a schedule come: how many events come before each
+unfoldable pub moments_text : List ℕ → List Event → List ℕ
+moments_text places base =
+    if length places == 0 then [] else codes ", at event" ++ plural (length places) ++ flat_map place_text (moments places base)
 
 -- a byte as it is shown: a printable one as it is, and others behind a backslash
 unfoldable pub shown_byte : ℕ → List ℕ

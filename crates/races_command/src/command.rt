@@ -154,6 +154,7 @@ fn search<'a, H: Host, P: Progress>(
                 table.as_slice(),
                 most,
                 within,
+                base,
                 true,
                 are_forced,
                 host,
@@ -175,7 +176,16 @@ fn search<'a, H: Host, P: Progress>(
         }
         Err(BootFault::NoMemory) => {
             progress.end();
-            let _ = send_table(alloc, table.as_slice(), most, within, false, false, host);
+            let _ = send_table(
+                alloc,
+                table.as_slice(),
+                most,
+                within,
+                base,
+                false,
+                false,
+                host,
+            );
             Err(NO_MEMORY)
         }
         Err(fault) => Err(Fault::Refused(Cause::Refused(Refusal::from(fault)))),

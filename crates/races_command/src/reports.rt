@@ -29,15 +29,19 @@ pub(crate) fn send_table<H: Host>(
     table: &[Row],
     most: u32,
     within: u32,
+    base: &[Event],
     are_all: bool,
     are_forced: bool,
     host: &mut H,
 ) -> Result<(), Fault<'static>>
     requires fits { sum (map (λ row. row.count) table.now) < 18446744073709551616 }
-    ensures sends { MatchResult result (λ _. H.view host.new ≡ counted (appended (H.view host.old) channel.Out (printed.table_text are_all are_forced most within table.now)) (H.view host.new).faults) (λ fault. spec.StopsIn (printed.table_text are_all are_forced most within table.now) None fault (H.view host.old) (H.view host.new)) }
+    requires base { length base.now ≤ 1000000 }
+    requires most { most ≤ 3 }
+    requires placements { All (λ row. IsPlacement most within row.first) table.now }
+    ensures sends { MatchResult result (λ _. H.view host.new ≡ counted (appended (H.view host.old) channel.Out (printed.table_text are_all are_forced most within base.now table.now)) (H.view host.new).faults) (λ fault. spec.StopsIn (printed.table_text are_all are_forced most within base.now table.now) None fault (H.view host.old) (H.view host.new)) }
     ensures later { (H.view host.old).faults ≤ (H.view host.new).faults }
 {
-    let Ok(text) = table_text(alloc, table, most, within, are_all, are_forced) else {
+    let Ok(text) = table_text(alloc, table, most, within, base, are_all, are_forced) else {
         return Err(NO_MEMORY);
     };
     match host.emit(Channel::Out, text.as_slice()) {

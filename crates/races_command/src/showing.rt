@@ -1,17 +1,18 @@
 //! The table as text.
 
-ghost use Rattle.std.specs.Prelude.{◌≡◌, ◌<◌, ◌+◌, ◌++◌, map, IfOk, OnOk};
-ghost use Rattle.std.specs.List.{sum};
+ghost use Rattle.std.specs.Prelude.{◌≡◌, ◌<◌, ◌≤◌, ◌+◌, ◌++◌, length, map, IfOk, OnOk};
+ghost use Rattle.std.specs.List.{All, sum};
 ghost use Rattle.races_command.specs.Printed as spec;
 
 use crate::console::push_console;
 use crate::stuck::is_stuck;
-use crate::texts::{push_listed, push_number, push_number_of, push_places};
+use crate::texts::{push_listed, push_moments, push_number, push_number_of, push_places};
 use race_tables::{Outcome, Row};
 use std::alloc::{AllocError, Global};
+use xinu_base::Event;
 
-/// The table of the placements with at most `most` quantum ends within `within` steps, or of the first of them. It says *every run* if nothing was
-/// chosen in them.
+/// The table of the placements with at most `most` quantum ends within `within` steps of the base, or of the first of them. It says *every run* if
+/// nothing was chosen in them.
 ///
 /// # Errors
 /// Out of memory.
@@ -21,14 +22,17 @@ pub(crate) fn table_text(
     table: &[Row],
     most: u32,
     within: u32,
+    base: &[Event],
     are_all: bool,
     are_forced: bool,
 ) -> Result<Vec<u8>, AllocError>
     requires fits { sum (map (λ row. row.count) table.now) < 18446744073709551616 }
-    ensures text { IfOk result (λ text. text.items ≡ spec.table_text are_all are_forced most within table.now) }
+    requires base { length base.now ≤ 1000000 }
+    requires few { All (λ row. length row.first ≤ 3) table.now }
+    ensures text { IfOk result (λ text. text.items ≡ spec.table_text are_all are_forced most within base.now table.now) }
 {
     let mut text = Vec::new(alloc);
-    push_rows(&mut text, table)?;
+    push_rows(&mut text, base, table)?;
     let runs = runs_in(table);
     push_last(
         &mut text,
@@ -43,29 +47,41 @@ pub(crate) fn table_text(
 }
 
 // Appends the rows, numbered from 1 on.
-fn push_rows(text: &mut Vec<u8>, table: &[Row]) -> Result<(), AllocError>
-    ensures rows { OnOk result (text.new.items ≡ text.old.items ++ spec.rows_text 1 table.now) }
+fn push_rows(text: &mut Vec<u8>, base: &[Event], table: &[Row]) -> Result<(), AllocError>
+    requires base { length base.now ≤ 1000000 }
+    requires few { All (λ row. length row.first ≤ 3) table.now }
+    ensures rows { OnOk result (text.new.items ≡ text.old.items ++ spec.rows_text base.now 1 table.now) }
 {
     for i in 0..table.len() {
         let row = &table[i];
-        push_row(text, i as u64 + 1, row)?;
+        push_row(text, base, i as u64 + 1, row)?;
     }
     Ok(())
 }
 
 // Appends a row with its number.
-fn push_row(text: &mut Vec<u8>, number: u64, row: &Row) -> Result<(), AllocError>
-    ensures row { OnOk result (text.new.items ≡ text.old.items ++ spec.row_text number row.now) }
+fn push_row(text: &mut Vec<u8>, base: &[Event], number: u64, row: &Row) -> Result<(), AllocError>
+    requires base { length base.now ≤ 1000000 }
+    requires few { length row.now.first ≤ 3 }
+    ensures row { OnOk result (text.new.items ≡ text.old.items ++ spec.row_text base.now number row.now) }
 {
-    push_head(text, number, row.count(), row.first())?;
+    push_head(text, base, number, row.count(), row.first())?;
     push_outcome(text, row.outcome())?;
     Ok(())
 }
 
-// Appends the first line of a row: how many schedules had the outcome, and the places of the first of them.
+// Appends the first line of a row: how many schedules had the outcome, and of the first of them the places, and when its preemptions come.
 #[tactic(auto, unfolding(crate::specs::Printed::head_text))]
-fn push_head(text: &mut Vec<u8>, number: u64, count: u64, places: &[u32]) -> Result<(), AllocError>
-    ensures head { OnOk result (text.new.items ≡ text.old.items ++ spec.head_text number count places.now) }
+fn push_head(
+    text: &mut Vec<u8>,
+    base: &[Event],
+    number: u64,
+    count: u64,
+    places: &[u32],
+) -> Result<(), AllocError>
+    requires base { length base.now ≤ 1000000 }
+    requires few { length places.now ≤ 3 }
+    ensures head { OnOk result (text.new.items ≡ text.old.items ++ spec.head_text base.now number count places.now) }
 {
     text.extend_from_slice(b"outcome ")?;
     push_number(text, number)?;
@@ -73,6 +89,7 @@ fn push_head(text: &mut Vec<u8>, number: u64, count: u64, places: &[u32]) -> Res
     push_number_of(text, count, "schedule")?;
     text.extend_from_slice(b", first with preemptions after")?;
     push_places(text, places)?;
+    push_moments(text, base, places)?;
     text.extend_from_slice(b"\n")?;
     Ok(())
 }
