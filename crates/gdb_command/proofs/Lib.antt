@@ -1,6 +1,11 @@
-pub mod Debugged
-pub mod Monitored
+pub mod NextEvents
 pub mod Obeyed
 pub mod Served
+pub mod Shorter
 pub mod Shown
 pub mod Streams
+pub mod Transcripts
+pub mod Writes
+pub mod Carried
+pub mod Reading
+pub mod Moved

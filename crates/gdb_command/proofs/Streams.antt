@@ -1,9 +1,7 @@
 -- Reads that were served.
-use Rattle.std.proofs.Common.{◌≡◌, ◌∙◌, ◌++◌, suc, ℕ, List, [], Option, Some, None, IfSome, refl, sym, ap, subst, append-nil, append_assoc}
-use Rattle.std.specs.Prelude.{Vec}
-use Rattle.std.specs.Global.{Global}
+use Rattle.std.proofs.Common.{◌≡◌, ◌∙◌, ◌++◌, suc, ℕ, false, List, [], Option, Some, None, refl, sym, ap, subst, append-nil, append_assoc}
 use Rattle.std.specs.Io.KnownBytes.{Appends, Consumes}
-use Rattle.gdb_command.specs.Reads.{HasReadOnce, ServesReads, ServesStreams}
+use Rattle.gdb_command.specs.Reads.{HasInputEnded, HasReadOnce, Passes, ServesReads, ServesStreams, Streams}
 use Rattle.gdb_command.specs.declared.session.Session.{Session}
 
 -- nothing appended
@@ -30,24 +28,27 @@ consumes-more (Some a) None c x y one two = absurd one
 consumes-more (Some a) (Some b) None x y one two = absurd two
 consumes-more (Some a) (Some b) (Some c) x y one two = one ∙ ap (λ (l : List ℕ). x ++ l) two ∙ sym (append_assoc x y c)
 
--- nothing was read yet
-pub none-read : (s : Session) (input output : Option (List ℕ)) → ServesStreams s s input input output output []
-unfolding ServesReads
-none-read s input output = record {
-  count = 0;
-  read = [];
-  written = [];
-  serves = (refl, refl, refl, refl);
-  reads = consumes-none input;
-  writes = appends-none output;
+-- nothing passed
+pub passes-none : (s : Streams) → Passes s s [] []
+passes-none s = record { reads = consumes-none s.left; writes = appends-none s.written }
+
+-- more passed
+pub passes-more : (a b c : Streams) (x y v w : List ℕ) → Passes a b x v → Passes b c y w → Passes a c (x ++ y) (v ++ w)
+passes-more a b c x y v w one two = record {
+  reads = consumes-more a.left b.left c.left x y one.reads two.reads;
+  writes = appends-more a.written b.written c.written v w one.writes two.writes;
 }
 
--- one read more
-pub more-read : (old mid new : Session) (a b c x y z : Option (List ℕ)) (pending : List ℕ) (rest : Option (Vec ℕ Global))
-    → ServesStreams old mid a b x y pending → (once : HasReadOnce mid new b c y z pending rest) → ServesStreams old new a c x z once.left
+-- nothing was read yet
+pub none-read : (s : Session) (a : Streams) → ServesStreams 0 s s a a []
 unfolding ServesReads
-more-read old mid new a b c x y z pending rest before once = record {
-  count = suc before.count;
+none-read s a = record { read = []; written = []; serves = (refl, refl, refl, refl); passes = passes-none a }
+
+-- one read more
+pub more-read : (n : ℕ) (old mid new : Session) (a b c : Streams) (pending left : List ℕ) → ServesStreams n old mid a b pending → mid.has_ended ≡ false
+    → HasReadOnce mid new b c pending left → ServesStreams (suc n) old new a c left
+unfolding ServesReads
+more-read n old mid new a b c pending left before on once = record {
   read = before.read ++ once.more;
   written = before.written ++ once.sent;
   serves = record {
@@ -56,25 +57,27 @@ more-read old mid new a b c x y z pending rest before once = record {
     answers = before.written;
     pending = pending;
     earlier = before.serves;
+    on = on;
     more = once.more;
+    some = once.some;
     sent = once.sent;
     served = once.served;
     reads = refl;
     writes = refl;
   };
-  reads = consumes-more a b c before.read once.more before.reads once.reads;
-  writes = appends-more x y z before.written once.sent before.writes once.writes;
+  passes = passes-more a b c before.read once.more before.written once.sent before.passes once.passes;
 }
 
--- what is left is what is answered
-left-answered : (result : Option (Vec ℕ Global)) (rest : Vec ℕ Global) (left : List ℕ) → result ≡ Some rest → IfSome result (λ v. v.items ≡ left)
-    → left ≡ rest.items
-left-answered None rest left is answers = absurd (cc)
-left-answered (Some v) rest left is answers = (let same : v ≡ rest = cc in sym answers ∙ ap (λ (v : Vec ℕ Global). v.items) same)
-
--- one read more, and the session goes on with what is left
-pub more-read-on : (old mid new : Session) (a b c x y z : Option (List ℕ)) (pending : List ℕ) (result : Option (Vec ℕ Global)) (rest : Vec ℕ Global)
-    → ServesStreams old mid a b x y pending → HasReadOnce mid new b c y z pending result → result ≡ Some rest → ServesStreams old new a c x z rest.items
-more-read-on old mid new a b c x y z pending result rest before once is =
-    subst (λ (l : List ℕ). ServesStreams old new a c x z l) (left-answered result rest once.left is once.answers)
-    (more-read old mid new a b c x y z pending result before once)
+-- the input has ended
+pub no-more-read : (n : ℕ) (old mid new : Session) (a b c : Streams) (pending left : List ℕ) → ServesStreams n old mid a b pending
+    → HasInputEnded mid new b c pending left → ServesStreams n old new a c left
+no-more-read n old mid new a b c pending left before ended =
+    let P : List ℕ → Type 0 = λ l. ServesStreams n old new a c l in
+    let Q : Session → Type 0 = λ s. ServesStreams n old s a c pending in
+    let both = passes-more a b c before.read [] before.written [] before.passes ended.passes in
+    let all : Passes a c before.read before.written =
+    (let R : List ℕ → Type 0 = λ l. Passes a c l before.written in
+    let S : List ℕ → Type 0 = λ l. Passes a c (before.read ++ []) l in
+    subst R (append-nil before.read) (subst S (append-nil before.written) both)) in
+    subst P (sym ended.waits)
+    (subst Q (sym ended.same) (record { read = before.read; written = before.written; serves = before.serves; passes = all }))

@@ -1,5 +1,10 @@
+pub mod Answered
 pub mod Console
 pub mod Debugging
+pub mod Deeds
+pub mod Held
 pub mod Monitor
+pub mod Monitored
 pub mod Reads
 pub mod Serving
+pub mod Transcripts

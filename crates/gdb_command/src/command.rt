@@ -1,14 +1,17 @@
 //! The command: its arguments and files are read as `run` reads them, and packets are served.
 
-ghost use Rattle.std.specs.Prelude.{◌≡◌, ◌≢◌, ◌≤◌, IfOk, OnOk, false, is_ok, length, map, string_bytes};
+ghost use Rattle.std.specs.Prelude.{◌≡◌, ◌≤◌, IfErr, IfOk, Ok, OnErr, OnOk, false, is_ok, length, map, string_bytes};
 ghost use Rattle.command_words.specs.ToolNames.{taken_words};
-ghost use Rattle.gdb_command.specs.Debugging.{BeginsRun, HasDebugged, HasServedRun, IsAsked, IsNamed};
+ghost use Rattle.command_words.specs.Tools.{rows_of};
+ghost use Rattle.command_words.specs.Words.{words_of};
+ghost use Rattle.gdb_command.specs.Debugging.{Answers, Carries, Continues, Goes, IsRunServed, Obeys, Tells, ended_by};
+ghost use Rattle.run_inputs.specs.Conversions.{host_refusal};
 ghost use Rattle.run_inputs.specs.InputFaults.{have_fault};
 
 use crate::serving::serve;
 use crate::session::Session;
 use command_words::{Taken, Tool};
-use host_port::{Host, HostFault};
+use host_port::Host;
 use refusal_words::tell_cause;
 use replayed_run::Replay;
 use run_inputs::{Cause, Inputs, Refusal, fetch_words, read_words};
@@ -30,7 +33,7 @@ pub fn debug<H: Host, R: Read, W: Write>(
     input: &mut R,
     output: &mut W,
 ) -> u8
-    ensures debugs { result ≡ 0 → HasDebugged (map string_bytes args.now) (H.view host.old) (H.view host.new) (R.remaining input.old) (R.remaining input.new) (W.contents output.old) (W.contents output.new) }
+    ensures debugs { Answers result (map string_bytes args.now) (H.view host.old) (H.view host.new) (record { left = R.remaining input.old; written = W.contents output.old }) (record { left = R.remaining input.new; written = W.contents output.new }) }
 {
     match carry_out(alloc, args, host, input, output) {
         Ok(()) => 0,
@@ -46,50 +49,66 @@ fn carry_out<'a, H: Host, R: Read, W: Write>(
     input: &mut R,
     output: &mut W,
 ) -> Result<(), Cause<'a>>
-    ensures debugs { OnOk result (HasDebugged (map string_bytes args.entry.now) (H.view host.old) (H.view host.new) (R.remaining input.old) (R.remaining input.new) (W.contents output.old) (W.contents output.new)) }
+    ensures carries { Carries (words_of (rows_of Tool.Gdb) (map string_bytes args.entry.now)) (ended_by result) (H.view host.old) (H.view host.new) (record { left = R.remaining input.old; written = W.contents output.old }) (record { left = R.remaining input.new; written = W.contents output.new }) }
 {
-    let replay = asked(alloc, args, host)?;
-    match served(alloc, replay, input, output) {
+    match read_words(alloc, Tool::Gdb, args) {
+        Ok(words) => obey(alloc, &words, host, input, output),
+        Err(cause) => Err(cause),
+    }
+}
+
+// Debugs the run that words name.
+fn obey<'a, H: Host, R: Read, W: Write>(
+    alloc: Global,
+    words: &Taken<'a>,
+    host: &mut H,
+    input: &mut R,
+    output: &mut W,
+) -> Result<(), Cause<'a>>
+    requires some { 1 ≤ length words.now.images.items }
+    requires few { length words.now.images.items ≤ 8 }
+    ensures obeys { Obeys (taken_words words.now) (ended_by result) (H.view host.old) (H.view host.new) (record { left = R.remaining input.old; written = W.contents output.old }) (record { left = R.remaining input.new; written = W.contents output.new }) }
+{
+    match fetch_words(alloc, words, host) {
+        Ok(inputs) => go_on(alloc, inputs, input, output),
+        Err(cause) => Err(cause),
+    }
+}
+
+// Goes on with inputs.
+fn go_on<'a, R: Read, W: Write>(
+    alloc: Global,
+    inputs: Inputs,
+    input: &mut R,
+    output: &mut W,
+) -> Result<(), Cause<'a>>
+    requires some { 1 ≤ length inputs.images.items }
+    requires few { length inputs.images.items ≤ 8 }
+    requires good { have_fault (map (λ v. v.items) inputs.images.items) ≡ false }
+    requires events { length inputs.schedule ≤ 1000000000 }
+    ensures continues { Continues (Ok inputs) (ended_by result) (record { left = R.remaining input.old; written = W.contents output.old }) (record { left = R.remaining input.new; written = W.contents output.new }) }
+{
+    match debug_run(alloc, inputs, input, output) {
         Ok(()) => Ok(()),
         Err(refusal) => Err(Cause::Refused(refusal)),
     }
 }
 
-// The run that the arguments of the command ask for, before its first event.
-fn asked<'a, H: Host>(alloc: Global, args: &'a [String], host: &mut H) -> Result<Replay, Cause<'a>>
-    ensures asked { IfOk result (λ r. IsAsked (map string_bytes args.entry.now) (H.view host.old) (H.view host.new) r) }
-{
-    let words = read_words(alloc, Tool::Gdb, args)?;
-    replay_of(alloc, &words, host)
-}
-
-// The run that the words of the command name, before its first event.
-fn replay_of<'a, H: Host>(
+// Serves packets for the run of these inputs.
+fn debug_run<R: Read, W: Write>(
     alloc: Global,
-    words: &Taken<'a>,
-    host: &mut H,
-) -> Result<Replay, Cause<'a>>
-    requires some { 1 ≤ length words.now.images.items }
-    requires few { length words.now.images.items ≤ 8 }
-    ensures named { IfOk result (λ r. IsNamed (taken_words words.now) (H.view host.old) (H.view host.new) r) }
-{
-    let inputs = fetch_words(alloc, words, host)?;
-    match begun(alloc, inputs) {
-        Ok(replay) => Ok(replay),
-        Err(refusal) => Err(Cause::Refused(refusal)),
-    }
-}
-
-// The run of these inputs, before its first event.
-fn begun(alloc: Global, inputs: Inputs) -> Result<Replay, Refusal>
+    inputs: Inputs,
+    input: &mut R,
+    output: &mut W,
+) -> Result<(), Refusal>
     requires some { 1 ≤ length inputs.images.items }
     requires few { length inputs.images.items ≤ 8 }
     requires good { have_fault (map (λ v. v.items) inputs.images.items) ≡ false }
     requires events { length inputs.schedule ≤ 1000000000 }
-    ensures begins { IfOk result (λ r. BeginsRun inputs r) }
+    ensures goes { Goes inputs (ended_by result) (record { left = R.remaining input.old; written = W.contents output.old }) (record { left = R.remaining input.new; written = W.contents output.new }) }
 {
     match Replay::new(alloc, inputs) {
-        Ok(replay) => Ok(replay),
+        Ok(replay) => served(alloc, replay, input, output),
         Err(fault) => Err(Refusal::from(fault)),
     }
 }
@@ -101,27 +120,18 @@ fn served<R: Read, W: Write>(
     input: &mut R,
     output: &mut W,
 ) -> Result<(), Refusal>
-    ensures serves { OnOk result (HasServedRun replay (R.remaining input.old) (R.remaining input.new) (W.contents output.old) (W.contents output.new)) }
+    ensures serves { IsRunServed replay (ended_by result) (record { left = R.remaining input.old; written = W.contents output.old }) (record { left = R.remaining input.new; written = W.contents output.new }) }
 {
     let mut session = Session::new(alloc, replay);
-    let ended = serve(alloc, &mut session, input, output);
-    or_refused(ended)
-}
-
-// How serving ended: a fault is the cause of a refusal.
-fn or_refused(ended: Result<(), HostFault>) -> Result<(), Refusal>
-    ensures goes { is_ok result ≡ is_ok ended }
-{
-    match ended {
+    match serve(alloc, &mut session, input, output) {
         Ok(()) => Ok(()),
-        Err(HostFault::Failed) => Err(Refusal::HostFault),
-        Err(HostFault::NoMemory) => Err(Refusal::NoMemory),
+        Err(fault) => Err(Refusal::from(fault)),
     }
 }
 
 // Sends the text of a cause's refusal and what the cause means, and answers the status.
 fn told<H: Host>(alloc: Global, cause: Cause<'_>, host: &mut H) -> u8
-    ensures refused { result ≢ 0 }
+    ensures tells { Tells (Some cause.entry) result (H.view host.old) (H.view host.new) }
 {
     tell_cause(alloc, cause, USAGE, host)
 }

@@ -7,12 +7,16 @@
 //!
 //! | Call | Promise |
 //! |---|---|
-//! | [`debug`] | `debugs`: at status 0, what was written answers what was read, piece by piece, by a run of the inputs that `run` would fetch |
+//! | [`debug`] | `debugs`: by a run of the inputs that `run` would fetch, what was written answers what was read, packet by packet: to the end of the session or the input at status 0, else up to a fault; and the cause is told |
 //!
-//! Which packets end the session, where the run stops, and what is told of a stop are shown by sessions (`debugger.md`); no clause says it.
+//! Which process is looked at, what `monitor` shows, acknowledgements, and what is sent again are part of it (`IsServed`). At which point the run
+//! stops, and of which process and why this is told, is shown by sessions (`debugger.md`); no clause says it.
 #![tactic(auto)]
 
+mod asked;
 mod command;
+mod deeds;
+mod lines_so_far;
 mod looking;
 mod monitor;
 mod output;

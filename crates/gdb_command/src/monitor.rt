@@ -1,18 +1,21 @@
-//! What the debugger's `monitor` asks for.
+//! What the debugger's `monitor` says.
 
-ghost use Rattle.std.specs.Prelude.{◌≡◌, OnOk, codes};
+ghost use Rattle.std.specs.Prelude.{◌≡◌, OnOk};
 ghost use Rattle.gdb_command.specs.Console.{Shows};
-ghost use Rattle.gdb_command.specs.Monitor.{event_text, event_word};
-ghost use Rattle.gdb_command.specs.Serving.{IsMonitored, IsSaid};
+ghost use Rattle.gdb_command.specs.Held.{held};
+ghost use Rattle.gdb_command.specs.Monitor.{asked_by, event_text, event_word};
+ghost use Rattle.gdb_command.specs.Monitored.{IsGone, IsMonitored, IsShown, IsTranscribed};
+ghost use Rattle.gdb_packets.specs.Commands.{monitor_words};
 ghost use Rattle.xinu_model.specs.Text.{tables_of, text};
 ghost use Rattle.replayed_run.specs.Replayed.{IsSameRun};
 
+use crate::asked::{Asked, asked_by};
+use crate::lines_so_far::lines_so_far;
 use crate::output::push_print;
 use crate::session::Session;
-use gdb_packets::monitor_words;
+use gdb_answers::Stop;
 use host_port::HostFault;
-use std::str;
-use watched_run::lines_so_far;
+use watched_run::shown;
 use xinu_base::Event;
 
 /// What `monitor` can be asked for.
@@ -23,38 +26,29 @@ impl Session {
     ///
     /// # Errors
     /// Out of memory; `Failed` if an event printed something else when it was taken before.
-    #[tactic(auto, using(replayed_run::proofs::SameRuns::again, replayed_run::proofs::SameRuns::still))]
     pub(crate) fn monitor(&mut self, payload: &[u8], out: &mut Vec<u8>) -> Result<(), HostFault>
         ensures same { OnOk result (IsSameRun self.old.run.replay self.new.run.replay) }
-        ensures monitors { OnOk result (IsMonitored self.old self.new payload.now out.old.items out.new.items) }
+        ensures monitored { OnOk result (IsMonitored (asked_by (monitor_words payload.now)) (held self.old) (held self.new) out.old.items out.new.items) }
+        ensures acks { self.new.has_acks ≡ self.old.has_acks }
     {
-        match monitor_words(self.alloc, payload)? {
-            Some(words) => {
-                self.say(words.as_slice(), out)?;
-                self.reply(b"OK", out)
-            }
-            None => {
-                push_print(self.alloc, HELP, out)?;
-                self.reply(b"OK", out)
-            }
-        }
+        let asked = asked_by(self.alloc, payload)?;
+        self.say(asked, out)?;
+        self.reply(b"OK", out)
     }
 
-    // Appends what is asked for by these words.
+    // Shows what is asked for.
     #[tactic(auto, using(replayed_run::proofs::SameRuns::again, replayed_run::proofs::SameRuns::still))]
-    fn say(&mut self, words: &[u8], out: &mut Vec<u8>) -> Result<(), HostFault>
+    fn say(&mut self, asked: Asked, out: &mut Vec<u8>) -> Result<(), HostFault>
         ensures same { OnOk result (IsSameRun self.old.run.replay self.new.run.replay) }
-        ensures event { OnOk result (words.now ≡ codes "event" → IsSaid self.old self.new (event_text self.old.run.replay) out.old.items out.new.items) }
-        ensures tables { OnOk result (words.now ≡ codes "tables" → IsSaid self.old self.new (text (tables_of self.old.run.replay.state)) out.old.items out.new.items) }
+        ensures shown { OnOk result (IsShown asked (held self.old) (held self.new) out.old.items out.new.items) }
+        ensures acks { self.new.has_acks ≡ self.old.has_acks }
     {
-        match words {
-            b"event" => self.say_event(out),
-            b"tables" => self.say_tables(out),
-            b"transcript" => self.say_transcript(out),
-            _ => match place_in(words) {
-                Some(count) => self.go_to(count, out),
-                None => Ok(push_print(self.alloc, HELP, out)?),
-            },
+        match asked {
+            Asked::Event => self.say_event(out),
+            Asked::Tables => self.say_tables(out),
+            Asked::Transcript => self.say_transcript(out),
+            Asked::Goto(count) => self.go_to(count, out),
+            Asked::Help => Ok(push_print(self.alloc, HELP, out)?),
         }
     }
 
@@ -62,10 +56,13 @@ impl Session {
     #[tactic(auto, using(replayed_run::proofs::SameRuns::again, replayed_run::proofs::SameRuns::still))]
     fn go_to(&mut self, count: u32, out: &mut Vec<u8>) -> Result<(), HostFault>
         ensures same { OnOk result (IsSameRun self.old.run.replay self.new.run.replay) }
+        ensures gone { OnOk result (IsGone count (held self.old) (held self.new) out.old.items out.new.items) }
+        ensures acks { self.new.has_acks ≡ self.old.has_acks }
     {
         self.run.forget_trap();
-        self.run.seek(count)?;
-        self.stand_still();
+        self.run.replay.seek(count)?;
+        self.stop = Stop::Here;
+        self.process = shown(&self.run.replay);
         self.say_event(out)
     }
 
@@ -80,11 +77,12 @@ impl Session {
     }
 
     // Shows the lines of the events that were taken.
-    #[tactic(auto, using(replayed_run::proofs::SameRuns::again, replayed_run::proofs::SameRuns::still))]
     fn say_transcript(&mut self, out: &mut Vec<u8>) -> Result<(), HostFault>
         ensures same { OnOk result (IsSameRun self.old.run.replay self.new.run.replay) }
+        ensures transcribed { OnOk result (IsTranscribed (held self.old) (held self.new) out.old.items out.new.items) }
+        ensures acks { self.new.has_acks ≡ self.old.has_acks }
     {
-        let lines = lines_so_far(self.alloc, &mut self.run)?;
+        let lines = lines_so_far(self.alloc, &mut self.run.replay)?;
         push_print(self.alloc, lines.as_slice(), out)?;
         Ok(())
     }
@@ -98,23 +96,6 @@ impl Session {
         let text = format!(in self.alloc; "{taken} events were taken; next: {next}\n")?;
         push_print(self.alloc, text.as_bytes(), out)?;
         Ok(())
-    }
-}
-
-// How many events are to be taken, if these words say so.
-fn place_in(words: &[u8]) -> Option<u32> {
-    let digits = words.strip_prefix(b"goto ".as_slice())?;
-    match str::from_utf8(digits) {
-        Ok(text) => number_of(text),
-        Err(_) => None,
-    }
-}
-
-// The number that digits write, if it has 32 bits.
-fn number_of(text: &str) -> Option<u32> {
-    match text.parse::<u32>() {
-        Ok(number) => Some(number),
-        Err(_) => None,
     }
 }
 

@@ -1,19 +1,23 @@
 //! The session: each packet is answered from the state of the run, and some move it.
 
-ghost use Rattle.std.specs.Prelude.{◌≡◌, ◌++◌, OnOk, [], true};
+ghost use Rattle.std.specs.Prelude.{◌≡◌, ◌&&◌, OnOk, IfSome, [], false, not, true};
+ghost use Rattle.gdb_answers.specs.Answers as answers;
 ghost use Rattle.gdb_answers.specs.Threads.{shown_process};
-ghost use Rattle.gdb_command.specs.Serving.{IsMonitored, IsObeyed};
-ghost use Rattle.replayed_run.specs.Replayed.{IsSameRun};
-ghost use Rattle.gdb_packets.specs.Frames as frames;
+ghost use Rattle.gdb_answers.specs.declared.stops.Stop.TheVariants.{Here};
+ghost use Rattle.gdb_command.specs.Answered.{IsAnswered};
+ghost use Rattle.gdb_command.specs.Deeds as deeds;
+ghost use Rattle.gdb_command.specs.Deeds.{Does, IsDone};
+ghost use Rattle.gdb_command.specs.Held.{held, standing};
+ghost use Rattle.gdb_command.specs.Serving.{IsObeyed};
+ghost use Rattle.replayed_run.specs.Replayed.{IsReplayed, IsSameRun};
 
 use crate::looking::answered;
-use crate::output::push_console_digits;
-use gdb_answers::{Stop, stop_text, thread_text};
-use gdb_packets::{Command, Point, PointKind, Threads, command_of, frame};
+use gdb_answers::Stop;
+use gdb_packets::{Command, command_of, frame};
 use host_port::HostFault;
 use replayed_run::Replay;
 use std::alloc::Global;
-use watched_run::{Goal, Stopped, WatchedRun, go_back, go_on, one_of, shown, thread_process};
+use watched_run::{WatchedRun, shown};
 use xinu_base::Pid;
 
 /// A session.
@@ -22,30 +26,27 @@ pub(crate) struct Session {
     pub(crate) alloc: Global,
     pub(crate) run: WatchedRun,
     // The process that is looked at, and the one that goes on.
-    look: Pid,
-    go: Pid,
+    pub(crate) look: Pid,
+    pub(crate) go: Pid,
     // The last stop, and the process that it was told of.
-    stop: Stop,
-    process: Pid,
-    // Whether packets are acknowledged.
-    pub(crate) has_acks: bool,
+    pub(crate) stop: Stop,
+    pub(crate) process: Pid,
     // The last packet that was sent.
     pub(crate) sent: Vec<u8>,
-}
-
-/// Whether the session goes on.
-#[derive(Clone, Copy)]
-pub(crate) enum Serves {
-    On,
-    Ends,
+    // Whether packets are acknowledged.
+    pub(crate) has_acks: bool,
+    // Whether the debugger ended it.
+    pub(crate) has_ended: bool,
 }
 
 impl Session {
     /// A session at the beginning of a run.
     pub(crate) fn new(alloc: Global, replay: Replay) -> Session
         ensures run { result.run.replay ≡ replay }
+        ensures stands { held result ≡ standing Here (shown_process replay.state.tables) (held result) }
+        ensures fresh { result.sent.items ≡ [] }
         ensures acknowledges { result.has_acks ≡ true }
-        ensures looks { result.look ≡ shown_process replay.state.tables }
+        ensures on { result.has_ended ≡ false }
     {
         let process = shown(&replay);
         Session {
@@ -55,8 +56,9 @@ impl Session {
             go: process,
             stop: Stop::Here,
             process,
-            has_acks: true,
             sent: Vec::new(alloc),
+            has_acks: true,
+            has_ended: false,
         }
     }
 
@@ -64,205 +66,33 @@ impl Session {
     ///
     /// # Errors
     /// Out of memory; `Failed` if an event printed something else when it was taken before.
-    pub(crate) fn obey(&mut self, payload: &[u8], out: &mut Vec<u8>) -> Result<Serves, HostFault>
+    pub(crate) fn obey(&mut self, payload: &[u8], out: &mut Vec<u8>) -> Result<(), HostFault>
         requires fresh { out.old.items ≡ [] }
         ensures obeyed { OnOk result (IsObeyed self.old self.new payload.now out.new.items) }
     {
         self.run.replay.runs();
         let command = command_of(payload);
-        match answered(self.alloc, &self.run.replay, self.look, command)? {
-            Some(text) => self.show(command, text.as_slice(), out),
-            None => self.serve(command, payload, out),
-        }
+        self.carry_out(command, payload, out)?;
+        self.has_acks = self.has_acks && !stops_acks(command);
+        self.has_ended = ends_session(command);
+        Ok(())
     }
 
-    // Appends the answer to a packet that looks.
-    fn show(
-        &mut self,
-        command: Command,
-        text: &[u8],
-        out: &mut Vec<u8>,
-    ) -> Result<Serves, HostFault>
-        ensures sends { OnOk result (out.new.items ≡ out.old.items ++ frames.frame text.now) }
-        ensures stays { self.new.run ≡ self.old.run }
-        ensures looks { self.new.look ≡ self.old.look }
-    {
-        self.reply(text, out)?;
-        if let Command::NoAcks = command {
-            self.has_acks = false;
-        }
-        Ok(Serves::On)
-    }
-
-    // Does what a packet asks for that doesn't look.
-    #[tactic(auto, using(replayed_run::proofs::SameRuns::again, replayed_run::proofs::SameRuns::still))]
-    fn serve(
+    // Answers a command from the state of the run, or does what it asks for.
+    fn carry_out(
         &mut self,
         command: Command,
         payload: &[u8],
         out: &mut Vec<u8>,
-    ) -> Result<Serves, HostFault>
+    ) -> Result<(), HostFault>
         ensures same { OnOk result (IsSameRun self.old.run.replay self.new.run.replay) }
-        ensures monitors { OnOk result (command ≡ Command.Monitor → IsMonitored self.old self.new payload.now out.old.items out.new.items) }
+        ensures done { OnOk result (IsDone command payload.now self.old.run.replay.state (held self.old) (held self.new) out.old.items out.new.items) }
+        ensures acks { self.new.has_acks ≡ self.old.has_acks }
     {
-        match command {
-            Command::Kill => Ok(Serves::Ends),
-            Command::Detach => {
-                self.reply(b"OK", out)?;
-                Ok(Serves::Ends)
-            }
-            Command::Monitor => {
-                self.monitor(payload, out)?;
-                Ok(Serves::On)
-            }
-            _ => {
-                self.act(command, out)?;
-                Ok(Serves::On)
-            }
+        match answered(self.alloc, &self.run.replay, self.look, command)? {
+            Some(text) => self.reply(text.as_slice(), out),
+            None => self.serve(command, payload, out),
         }
-    }
-
-    // Moves the run, or what the session looks at.
-    #[tactic(auto, using(replayed_run::proofs::SameRuns::again, replayed_run::proofs::SameRuns::still))]
-    fn act(&mut self, command: Command, out: &mut Vec<u8>) -> Result<(), HostFault>
-        ensures same { OnOk result (IsSameRun self.old.run.replay self.new.run.replay) }
-    {
-        match command {
-            Command::Why => self.tell(out),
-            Command::CurrentThread => self.tell_thread(out),
-            Command::Look(threads) => {
-                self.look = self.named(threads, self.look);
-                self.reply(b"OK", out)
-            }
-            Command::Go(threads) => {
-                self.go = self.named(threads, self.go);
-                self.reply(b"OK", out)
-            }
-            Command::Set(point) => self.set(point, out),
-            Command::Clear(point) => self.clear(point, out),
-            _ => self.move_run(command, out),
-        }
-    }
-
-    // Moves the run.
-    #[tactic(auto, using(replayed_run::proofs::SameRuns::again, replayed_run::proofs::SameRuns::still))]
-    fn move_run(&mut self, command: Command, out: &mut Vec<u8>) -> Result<(), HostFault>
-        ensures same { OnOk result (IsSameRun self.old.run.replay self.new.run.replay) }
-    {
-        match command {
-            Command::Step(threads) => {
-                let process = self.named(threads, self.go);
-                self.forward(&one_of(process), out)
-            }
-            Command::Continue => self.forward(&Goal::Point, out),
-            Command::ContinueOne(thread) => {
-                let process = self.named(Threads::One(thread), self.go);
-                self.forward(&Goal::Alone(process), out)
-            }
-            Command::StepBack => {
-                let goal = one_of(self.go);
-                self.back(&goal, out)
-            }
-            Command::ContinueBack => self.back(&Goal::Point, out),
-            _ => self.reply(b"", out),
-        }
-    }
-
-    // The process of a thread, or this one if no thread is named, or the thread is gone.
-    fn named(&self, threads: Threads, otherwise: Pid) -> Pid {
-        match threads {
-            Threads::Any => otherwise,
-            Threads::One(thread) => match thread_process(&self.run.replay, thread) {
-                Some(p) => p,
-                None => otherwise,
-            },
-        }
-    }
-
-    // The run is to stop at a point.
-    fn set(&mut self, point: Point, out: &mut Vec<u8>) -> Result<(), HostFault>
-        ensures stays { self.new.run.replay ≡ self.old.run.replay }
-    {
-        if let PointKind::Break = point.kind {
-            self.run.set(point.at)?;
-            return self.reply(b"OK", out);
-        }
-        if self.run.watch(point.at, point.count)? {
-            self.reply(b"OK", out)
-        } else {
-            self.reply(b"E01", out)
-        }
-    }
-
-    // The run is no longer to stop at a point.
-    fn clear(&mut self, point: Point, out: &mut Vec<u8>) -> Result<(), HostFault>
-        ensures stays { self.new.run.replay ≡ self.old.run.replay }
-    {
-        match point.kind {
-            PointKind::Break => self.run.clear(point.at),
-            PointKind::Write => self.run.forget(point.at, point.count),
-        }
-        self.reply(b"OK", out)
-    }
-
-    // Goes on, and tells why it stopped.
-    #[tactic(auto, using(replayed_run::proofs::SameRuns::again, replayed_run::proofs::SameRuns::still))]
-    fn forward(&mut self, goal: &Goal, out: &mut Vec<u8>) -> Result<(), HostFault>
-        ensures same { OnOk result (IsSameRun self.old.run.replay self.new.run.replay) }
-    {
-        let mut console = Vec::new(self.alloc);
-        let stopped = go_on(&mut self.run, goal, &mut console)?;
-        push_console_digits(self.alloc, console.as_slice(), out)?;
-        self.stand(stopped, out)
-    }
-
-    // Goes back, and tells why it stopped.
-    #[tactic(auto, using(replayed_run::proofs::SameRuns::again, replayed_run::proofs::SameRuns::still))]
-    fn back(&mut self, goal: &Goal, out: &mut Vec<u8>) -> Result<(), HostFault>
-        ensures same { OnOk result (IsSameRun self.old.run.replay self.new.run.replay) }
-    {
-        let stopped = go_back(&mut self.run, goal)?;
-        self.stand(stopped, out)
-    }
-
-    // The run stands.
-    fn stand(&mut self, stopped: Stopped, out: &mut Vec<u8>) -> Result<(), HostFault>
-        ensures stays { self.new.run ≡ self.old.run }
-    {
-        let Stopped { stop, process } = stopped;
-        self.stop = stop;
-        self.process = process;
-        self.look = process;
-        self.go = process;
-        self.tell(out)
-    }
-
-    /// The run stands where it was sent. The debugger isn't told of it, so the processes stay that are looked at and go on.
-    pub(crate) fn stand_still(&mut self)
-        ensures stays { self.new.run ≡ self.old.run }
-        ensures looks { self.new.look ≡ self.old.look }
-        ensures goes { self.new.go ≡ self.old.go }
-    {
-        self.stop = Stop::Here;
-        self.process = shown(&self.run.replay);
-    }
-
-    // Tells why the run stands.
-    fn tell(&mut self, out: &mut Vec<u8>) -> Result<(), HostFault>
-        ensures stays { self.new.run ≡ self.old.run }
-    {
-        let text = stop_text(self.alloc, self.stop, self.process)?;
-        self.reply(text.as_slice(), out)
-    }
-
-    // Tells the thread of the last stop.
-    fn tell_thread(&mut self, out: &mut Vec<u8>) -> Result<(), HostFault>
-        ensures stays { self.new.run ≡ self.old.run }
-    {
-        let thread = thread_text(self.alloc, self.process)?;
-        let mut text = Vec::from_slice(self.alloc, b"QC")?;
-        text.extend_from_slice(thread.as_slice())?;
-        self.reply(text.as_slice(), out)
     }
 
     /// Appends the packet of an answer, and keeps it.
@@ -270,13 +100,27 @@ impl Session {
     /// # Errors
     /// Out of memory.
     pub(crate) fn reply(&mut self, text: &[u8], out: &mut Vec<u8>) -> Result<(), HostFault>
-        ensures appended { OnOk result (out.new.items ≡ out.old.items ++ frames.frame text.now) }
+        ensures answered { OnOk result (IsAnswered (held self.old) (held self.new) text.now out.old.items out.new.items) }
         ensures stays { self.new.run ≡ self.old.run }
-        ensures looks { self.new.look ≡ self.old.look }
+        ensures acks { self.new.has_acks ≡ self.old.has_acks }
     {
         let packet = frame(self.alloc, text)?;
         out.extend_from_slice(packet.as_slice())?;
         self.sent = packet;
         Ok(())
     }
+}
+
+// Whether packets are no longer acknowledged after a command.
+fn stops_acks(command: Command) -> bool
+    ensures stops { result ≡ deeds.stops_acks command }
+{
+    matches!(command, Command::NoAcks)
+}
+
+// Whether the session ends with a command.
+fn ends_session(command: Command) -> bool
+    ensures ends { result ≡ deeds.ends_session command }
+{
+    matches!(command, Command::Kill | Command::Detach)
 }

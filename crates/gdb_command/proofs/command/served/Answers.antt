@@ -1,17 +1,18 @@
--- The session began with the run.
-use Rattle.gdb_command.proofs.Debugged.{goes-as}
+-- It was served up to a fault.
+use Rattle.gdb_command.proofs.Carried.{served-part}
+use Rattle.gdb_command.proofs.Reading.{at}
 use Rattle.gdb_command.proofs.command.served.Goals as goal
 
 pub returns : goal.returns
-returns g c = record {
-  serves =
-      goes-as c.serve-ended.result c.or_refused.result c.or_refused.ensures.goes c.serve-ended.ensures.serves
-      (λ served. record {
-        start = c.new-session.result;
-        run = c.new-session.ensures.run;
-        acknowledges = c.new-session.ensures.acknowledges;
-        looks = c.new-session.ensures.looks;
-        end = c.serve-ended.new.session;
-        serves = served;
-      });
-}
+returns g c =
+    let start = c.new-session.ensures in
+    record {
+      serves =
+          served-part c.args.replay c.in-Err.fault c.from.result (at (g.R.Read.remaining c.args.input.now) (g.W.Write.contents c.args.output.now))
+          (at (g.R.Read.remaining c.serve.new.input) (g.W.Write.contents c.serve.new.output)) c.from.ensures
+          (record {
+            start = c.new-session.result;
+            begins = record { run = start.run; stands = start.stands; fresh = start.fresh; acknowledges = start.acknowledges; on = start.on };
+            serves = c.in-Err.ensures.cut;
+          });
+    }

@@ -2,7 +2,7 @@
 use Rattle.std.proofs.Common.{◌≡◌, ◌∙◌, ◌++◌, ℕ, List, append_assoc, sym, ap, subst}
 use Rattle.std.specs.Fmt.{decimal}
 use Rattle.std.specs.Prelude.{codes}
-use Rattle.gdb_command.proofs.Monitored.{next-is}
+use Rattle.gdb_command.proofs.NextEvents.{next-is}
 use Rattle.gdb_command.specs.Console.{Shows}
 use Rattle.gdb_command.specs.Monitor.{event_text, event_word, next_event}
 use Rattle.gdb_command.proofs.session.Session.say_event.Goals as goal
