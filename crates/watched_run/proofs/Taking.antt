@@ -59,7 +59,7 @@ abbrev pub after_steps : ℕ → Replayed → Replayed
 after_steps j r = record r { taken = r.taken + j; state = stepped_times j r.state }
 
 -- a plain step is taken
-step-taken : (j : ℕ) (r : Replayed) → r.over ≡ false → slice_get r.events (r.taken + j) ≡ Some Step → IsPlain (stepped_times j r.state)
+pub step-taken : (j : ℕ) (r : Replayed) → r.over ≡ false → slice_get r.events (r.taken + j) ≡ Some Step → IsPlain (stepped_times j r.state)
     → Takes (after_steps j r) (after_steps (suc j) r) []
 step-taken j r goes next plain =
     let s = stepped_times j r.state in
@@ -86,7 +86,7 @@ step-taken j r goes next plain =
     takes
 
 -- where a run stands that took steps at once
-steps-stand : (n : ℕ) (old new : Replayed) → TakesSteps n old new → Stands (after_steps n old) new
+pub steps-stand : (n : ℕ) (old new : Replayed) → TakesSteps n old new → Stands (after_steps n old) new
 steps-stand n old new takes = record {
   stays = takes.changes
       ∙ ap (λ (k : Bool). record (after_steps n old) { told = new.told; known = k }) (sym (ap (λ (r : Replayed). r.known) takes.changes));
@@ -109,7 +109,7 @@ next-event-is r (Some event) is goes =
     sym (ap (λ (b : Bool). cond b None (slice_get r.events r.taken)) (comes-next r.over r.events r.taken event goes is) ∙ is)
 
 -- neither of two
-neither-left : (a b : Bool) → (a || b) ≡ false → a ≡ false
+pub neither-left : (a b : Bool) → (a || b) ≡ false → a ≡ false
 neither-left true b none = none
 neither-left false b none = refl
 

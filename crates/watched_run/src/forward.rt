@@ -1,15 +1,20 @@
 //! The run goes on until something stops it.
 
-ghost use Rattle.std.specs.Prelude.{OnOk};
-ghost use Rattle.replayed_run.specs.Replayed.{IsSameRun};
+ghost use Rattle.std.specs.Prelude.{◌≡◌, ℕ, IfOk, List, None, OnOk, false};
+ghost use Rattle.replayed_run.specs.Replayed.{IsSameRun, is_at_end};
+ghost use Rattle.watched_run.specs.Moments as moments;
+ghost use Rattle.watched_run.specs.Moves as moves;
+ghost use Rattle.watched_run.specs.Moves.{Advances, Moves, Steps, Stops, orders_of, told_after, told_by};
+ghost use Rattle.watched_run.specs.Stops.{HasPassed};
+ghost use Rattle.watched_run.specs.Watching.{HaveSeen};
 
 use crate::goals::Goal;
 use crate::looking::{actor, shown};
-use crate::stopped::{Stopped, changed_at, here, trapped};
+use crate::stopped::{Stopped, here, stop_at_trap, stop_by, stopped_ahead};
 use crate::watched::WatchedRun;
 use gdb_answers::Stop;
 use host_port::HostFault;
-use xinu_base::{Cause, Pid};
+use xinu_base::Pid;
 
 /// Takes events until the run is to stop. The digits of the console's bytes go to `console`.
 ///
@@ -18,12 +23,11 @@ use xinu_base::{Cause, Pid};
 #[tactic(auto, using(replayed_run::proofs::SameRuns::again, replayed_run::proofs::SameRuns::still))]
 pub fn go_on(run: &mut WatchedRun, goal: &Goal, console: &mut Vec<u8>) -> Result<Stopped, HostFault>
     ensures same { OnOk result (IsSameRun run.old.replay run.new.replay) }
+    ensures stops { IfOk result (λ stopped. Stops (orders_of goal.now run.old) run.old.replay run.new.replay stopped) }
+    ensures told { IfOk result (λ stopped. orders_of goal.now run.new ≡ told_by stopped.stop run.new.replay.taken (orders_of goal.now run.old)) }
 {
     let _ = run.changed();
-    for _ in 0..u32::MAX {
-        if run.replay.is_at_end() {
-            break;
-        }
+    while !run.replay.is_at_end() {
         if let Some(stopped) = advance(run, goal, console)? {
             return Ok(stopped);
         }
@@ -34,99 +38,121 @@ pub fn go_on(run: &mut WatchedRun, goal: &Goal, console: &mut Vec<u8>) -> Result
     })
 }
 
-// Takes an event, or more if nothing can stop the run meanwhile, unless a point stops the run ahead of it. Answers the stop, if there is one.
+// Takes an event, and more if only a trap can stop the run meanwhile, unless a point stops the run ahead of it. Answers the stop, if there
+// is one.
 #[tactic(auto, using(replayed_run::proofs::SameRuns::again, replayed_run::proofs::SameRuns::still))]
 fn advance(
     run: &mut WatchedRun,
     goal: &Goal,
     console: &mut Vec<u8>,
 ) -> Result<Option<Stopped>, HostFault>
+    requires goes_on { is_at_end run.old.replay ≡ false }
+    requires seen { HaveSeen run.old.replay.state.memory run.old.points.watches.items }
     ensures same { OnOk result (IsSameRun run.old.replay run.new.replay) }
+    ensures advances { IfOk result (λ found. Advances (orders_of goal.now run.old) run.old.replay run.new.replay found) }
+    ensures seen { IfOk result (λ found. found ≡ None → HaveSeen run.new.replay.state.memory run.new.points.watches.items) }
+    ensures told { IfOk result (λ found. orders_of goal.now run.new ≡ told_after found run.new.replay.taken (orders_of goal.now run.old)) }
+{
+    if let Some(stopped) = advance_one(run, goal, console)? {
+        return Ok(Some(stopped));
+    }
+    jump(run, goal);
+    Ok(None)
+}
+
+// Takes the steps that come next and print nothing, if only a trap can stop the run.
+#[tactic(auto, using(replayed_run::proofs::SameRuns::again, replayed_run::proofs::SameRuns::still))]
+fn jump(run: &mut WatchedRun, goal: &Goal)
+    requires seen { HaveSeen run.old.replay.state.memory run.old.points.watches.items }
+    ensures same { IsSameRun run.old.replay run.new.replay }
+    ensures passed { HasPassed (orders_of goal.now run.old) run.old.replay run.new.replay }
+    ensures seen { HaveSeen run.new.replay.state.memory run.new.points.watches.items }
+    ensures told { orders_of goal.now run.new ≡ orders_of goal.now run.old }
 {
     if goal.is_free() && run.points.is_empty() {
         run.take_steps();
-    }
-    match actor(&run.replay) {
-        Some(p) => advance_process(run, p, goal, console),
-        None => advance_others(run, goal, console),
+        let _ = run.changed();
     }
 }
 
-// Takes the instruction of a process, unless a point stops the run ahead of it.
+// Takes an event, unless a point stops the run ahead of it. Answers the stop, if there is one.
 #[tactic(auto, using(replayed_run::proofs::SameRuns::again, replayed_run::proofs::SameRuns::still))]
-fn advance_process(
-    run: &mut WatchedRun,
-    p: Pid,
-    goal: &Goal,
-    console: &mut Vec<u8>,
-) -> Result<Option<Stopped>, HostFault>
-    ensures same { OnOk result (IsSameRun run.old.replay run.new.replay) }
-{
-    if goal.has_points(p) && run.is_at_point(p) {
-        return Ok(Some(here(p)));
-    }
-    match step(run, p, goal, console)? {
-        Some(cause) => Ok(Some(trapped(cause, p))),
-        None => Ok(after_instruction(run, p, goal)),
-    }
-}
-
-// The stop after an instruction of a process, if there is one.
-#[tactic(auto, using(replayed_run::proofs::SameRuns::again, replayed_run::proofs::SameRuns::still))]
-fn after_instruction(run: &mut WatchedRun, p: Pid, goal: &Goal) -> Option<Stopped>
-    ensures same { IsSameRun run.old.replay run.new.replay }
-{
-    if let Some(at) = run.changed() {
-        return Some(changed_at(at, goal.teller(p)));
-    }
-    if is_reached(run, goal, p) {
-        Some(here(p))
-    } else {
-        None
-    }
-}
-
-// Takes an event that is no instruction of a process.
-#[tactic(auto, using(replayed_run::proofs::SameRuns::again, replayed_run::proofs::SameRuns::still))]
-fn advance_others(
+fn advance_one(
     run: &mut WatchedRun,
     goal: &Goal,
     console: &mut Vec<u8>,
 ) -> Result<Option<Stopped>, HostFault>
+    requires goes_on { is_at_end run.old.replay ≡ false }
+    requires seen { HaveSeen run.old.replay.state.memory run.old.points.watches.items }
     ensures same { OnOk result (IsSameRun run.old.replay run.new.replay) }
+    ensures moves { IfOk result (λ found. Moves (orders_of goal.now run.old) run.old.replay run.new.replay found) }
+    ensures seen { IfOk result (λ found. found ≡ None → HaveSeen run.new.replay.state.memory run.new.points.watches.items) }
+    ensures told { IfOk result (λ found. orders_of goal.now run.new ≡ told_after found run.new.replay.taken (orders_of goal.now run.old)) }
 {
-    let _ = run.take_next(console)?;
-    match run.changed() {
-        Some(at) => Ok(Some(changed_at(at, goal.teller(shown(&run.replay))))),
+    let who = actor(&run.replay);
+    match stopped_ahead(run, goal, &who) {
+        Some(p) => Ok(Some(here(p))),
+        None => take_one(run, goal, &who, console),
+    }
+}
+
+// Takes an event, ahead of which no point stops the run. Answers the stop, if there is one.
+#[tactic(auto, using(replayed_run::proofs::SameRuns::again, replayed_run::proofs::SameRuns::still))]
+fn take_one(
+    run: &mut WatchedRun,
+    goal: &Goal,
+    who: &Option<Pid>,
+    console: &mut Vec<u8>,
+) -> Result<Option<Stopped>, HostFault>
+    requires goes_on { is_at_end run.old.replay ≡ false }
+    requires seen { HaveSeen run.old.replay.state.memory run.old.points.watches.items }
+    requires acts { who.now ≡ moments.actor run.old.replay }
+    requires no_point { moves.stopped_ahead (orders_of goal.now run.old) run.old.replay.state who.now ≡ None }
+    ensures same { OnOk result (IsSameRun run.old.replay run.new.replay) }
+    ensures moves { IfOk result (λ found. Moves (orders_of goal.now run.old) run.old.replay run.new.replay found) }
+    ensures seen { IfOk result (λ found. found ≡ None → HaveSeen run.new.replay.state.memory run.new.points.watches.items) }
+    ensures told { IfOk result (λ found. orders_of goal.now run.new ≡ told_after found run.new.replay.taken (orders_of goal.now run.old)) }
+{
+    match step(run, goal, who, console)? {
+        Some(stopped) => Ok(Some(stopped)),
+        None => Ok(after(run, goal, who)),
+    }
+}
+
+// Takes the event that comes next. If a trap in it is told, the run stands ahead of it, and the stop is answered.
+#[tactic(auto, using(replayed_run::proofs::SameRuns::again, replayed_run::proofs::SameRuns::still))]
+fn step(
+    run: &mut WatchedRun,
+    goal: &Goal,
+    who: &Option<Pid>,
+    console: &mut Vec<u8>,
+) -> Result<Option<Stopped>, HostFault>
+    requires goes_on { is_at_end run.old.replay ≡ false }
+    ensures same { OnOk result (IsSameRun run.old.replay run.new.replay) }
+    ensures steps { IfOk result (λ found. Steps (orders_of goal.now run.old) run.old.replay run.new.replay who.now found) }
+    ensures points { run.new.points ≡ run.old.points }
+    ensures told { IfOk result (λ found. orders_of goal.now run.new ≡ told_after found run.new.replay.taken (orders_of goal.now run.old)) }
+{
+    run.replay.runs();
+    let number = run.replay.taken();
+    let trap = run.take_next(console)?;
+    match stop_at_trap(run, goal, number, trap, who) {
+        Some(stopped) => {
+            run.stand_before(number)?;
+            run.replay.runs();
+            Ok(Some(stopped))
+        }
         None => Ok(None),
     }
 }
 
-// Takes the instruction of a process. If it is trapped, and that may be told and wasn't, the run stands ahead of it, and the cause is
-// answered.
-#[tactic(auto, using(replayed_run::proofs::SameRuns::again, replayed_run::proofs::SameRuns::still))]
-fn step(
-    run: &mut WatchedRun,
-    p: Pid,
-    goal: &Goal,
-    console: &mut Vec<u8>,
-) -> Result<Option<Cause>, HostFault>
-    ensures same { OnOk result (IsSameRun run.old.replay run.new.replay) }
+// The stop after an event of this process, or of none, if there is one.
+fn after(run: &mut WatchedRun, goal: &Goal, who: &Option<Pid>) -> Option<Stopped>
+    ensures stays { run.new.replay ≡ run.old.replay }
+    ensures stop { (memory : List ℕ) → HaveSeen memory run.old.points.watches.items → result ≡ moves.stop_after (orders_of goal.now run.old) memory run.old.replay.state who.now }
+    ensures seen { HaveSeen run.new.replay.state.memory run.new.points.watches.items }
+    ensures told { orders_of goal.now run.new ≡ orders_of goal.now run.old }
 {
-    let number = run.replay.taken();
-    let trap = run.take_next(console)?;
-    if trap.is_none() || !goal.tells(p) || run.was_told(number) {
-        return Ok(None);
-    }
-    run.stand_before(number)?;
-    Ok(trap)
-}
-
-// Whether an instruction that this process made reaches the goal.
-fn is_reached(run: &WatchedRun, goal: &Goal, p: Pid) -> bool {
-    if goal.is_alone() {
-        goal.tells(p) && (run.is_at_point(p) || !run.is_left(p))
-    } else {
-        goal.is_met(p)
-    }
+    let changed = run.changed();
+    stop_by(run, goal, who, changed)
 }

@@ -8,14 +8,15 @@
 //! | [`WatchedRun::new`] | `run`, `addresses`, `areas`, `told`: a run that is watched for nothing |
 //! | [`WatchedRun::set`], [`WatchedRun::clear`] | `stays`; `set`, `clear`: the run is to stop ahead of the instruction at an address, or no longer |
 //! | [`WatchedRun::watch`], [`WatchedRun::forget`] | `stays`; `few`, `watch`, `forget`: the run is to stop after a change of some bytes, at most eight, or no longer |
-//! | [`go_on`], [`go_back`] | `same`: the run goes to where it stops, and is the same run |
+//! | [`go_on`] | `stops`: the run passes events as long as nothing stops it, and stops with the next one, for this reason and at this process; `told`: of which trap that was told; `same`: it is the same run |
+//! | [`go_back`] | `same`: the run goes back to where it stops, and is the same run |
 //! | [`WatchedRun::seek`] | `same`: it goes to where so many events were taken |
 //! | [`lines_so_far`] | `same`: the lines of the events that were taken |
 //! | [`shown`], [`thread_process`] | `shown`, `process`: the process that is looked at first, and that of a thread's number |
 //!
-//! The moves of which a stop is made are exact: which process acts next (`actor`), whether its instruction is at a point (`is_at_point`), which of
-//! the watched bytes changed first (`first_changed`), which event was taken and whether it printed a trap (`Takes`, `HasTaken`), and whom a goal
-//! concerns (`specs/Goals.antt`). Where [`go_on`] and [`go_back`] stop is shown by sessions (`debugger.md`); no clause says it.
+//! What stops a run is said in `specs/Stops.antt`: a point ahead of an instruction, a trap that is told, a change of bytes that are watched, a
+//! goal that is reached, or the end of the run. [`go_on`] stops with the first event at which there is one. Whether [`go_back`] stops at the
+//! last is shown by sessions (`debugger.md`); no clause says it.
 #![tactic(auto)]
 
 mod backward;
