@@ -11,7 +11,6 @@
 //! | [`go_on`] | `stops`: the run passes events as long as nothing stops it, and stops with the next one, for this reason and at this process; `told`: of which trap that was told; `same`: it is the same run |
 //! | [`go_back`] | `same`: the run goes back to where it stops, and is the same run |
 //! | [`WatchedRun::seek`] | `same`: it goes to where so many events were taken |
-//! | [`lines_so_far`] | `same`: the lines of the events that were taken |
 //! | [`shown`], [`thread_process`] | `shown`, `process`: the process that is looked at first, and that of a thread's number |
 //!
 //! What stops a run is said in `specs/Stops.antt`: a point ahead of an instruction, a trap that is told, a change of bytes that are watched, a
@@ -26,7 +25,6 @@ mod lines;
 mod looking;
 mod points;
 mod stopped;
-mod transcripts;
 mod watched;
 
 pub use backward::go_back;
@@ -34,5 +32,4 @@ pub use forward::go_on;
 pub use goals::{Goal, one_of};
 pub use looking::{shown, thread_process};
 pub use stopped::Stopped;
-pub use transcripts::lines_so_far;
 pub use watched::WatchedRun;

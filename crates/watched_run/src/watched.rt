@@ -209,23 +209,6 @@ impl WatchedRun {
         }
     }
 
-    /// Takes an event that may print, and appends its lines.
-    ///
-    /// # Errors
-    /// Out of memory; `Failed` if an event printed something else when it was taken before.
-    pub(crate) fn take_lines(&mut self, lines: &mut Vec<u8>) -> Result<(), HostFault>
-        ensures same { OnOk result (IsSameRun self.old.replay self.new.replay) }
-    {
-        match self.replay.take() {
-            Ok(Some(taken)) => {
-                lines.extend_from_slice(taken.bytes())?;
-                Ok(())
-            }
-            Ok(None) => Ok(()),
-            Err(fault) => Err(HostFault::from(fault)),
-        }
-    }
-
     /// Takes a step that prints nothing, if that is the next event. Whether it did.
     pub(crate) fn take_step(&mut self) -> bool
         ensures same { IsSameRun self.old.replay self.new.replay }

@@ -5,6 +5,7 @@ use std::rt::Runtime;
 
 /// The files of two streams (Linux, proc(5)).
 pub(crate) const STANDARD_INPUT: &str = "/proc/self/fd/0";
+
 pub(crate) const STANDARD_ERROR: &str = "/proc/self/fd/2";
 
 /// Whether a stream is a terminal, by the file that it is.
