@@ -70,6 +70,7 @@ replayed-event r e first next told known is goes next-is happens says =
       end = end;
       runs = subst Q (sym (take-one r.events r.taken e next-is)) both;
       goes_on = λ none. goes-on (end_with (panics_in r.state e) (is_over next)) none;
+      ended = λ over. record { before = r.taken; one_more = omega arith; lines = is.lines; state = r.state; runs = before };
       within = λ k. (let far = says.far k in omega (arith, far));
       printed = λ k.
           text_append is.lines first
@@ -112,6 +113,7 @@ replayed-steps r k n rest told is goes few ahead plain quiet =
       end = Schedule;
       runs = subst Q (sym some) both;
       goes_on = λ none. refl;
+      ended = λ over. cc (over, goes);
       within = λ known. quiet.far known;
       printed = λ known.
           ap text (append-nil is.lines)

@@ -17,6 +17,7 @@ replayed-none r m booted = record {
   end = Schedule;
   runs = (refl, refl, refl);
   goes_on = λ k. refl;
+  ended = λ over. cc (over, booted.goes_on);
   within = λ k. omega arith;
   printed = λ k. refl;
 }
