@@ -40,10 +40,10 @@ abbrev pub timeline_rows : List ValueRow
 timeline_rows = row (codes "from") (Number 1 1000000000) Optional ∷ row (codes "events") (Number 1 2000) Optional
     ∷ row (codes "title") (Title 90) Optional ∷ input_rows
 
--- `races --preemptions P --within N [--found FILE [--outcome K]] --schedule FILE [--disk0 FILE] [--disk1 FILE] IMAGE ..`
+-- `races --preemptions P --within N [--from M] [--found FILE [--outcome K]] --schedule FILE [--disk0 FILE] [--disk1 FILE] IMAGE ..`
 abbrev pub races_rows : List ValueRow
 races_rows = row (codes "preemptions") (Number 0 9999999999) Needed ∷ row (codes "within") (Number 0 9999999999) Needed
-    ∷ row (codes "found") File Optional ∷ row (codes "outcome") (Number 1 9999999999) (With (codes "found")) ∷ input_rows
+    ∷ row (codes "from") (Number 0 9999999999) Optional ∷ row (codes "found") File Optional ∷ row (codes "outcome") (Number 1 9999999999) (With (codes "found")) ∷ input_rows
 
 -- the options of a command
 abbrev pub rows_of : Tool → List ValueRow

@@ -129,6 +129,14 @@ const RACES: &[ValueRow] = &[
         },
         Need::Needed
     ),
+    row!(
+        "from",
+        Kind::Number {
+            least: 0,
+            most: GREATEST
+        },
+        Need::Optional
+    ),
     row!("found", Kind::File, Need::Optional),
     row!(
         "outcome",

@@ -1,9 +1,11 @@
 -- What the next step of a state does to memory: the process that executes, its stack, and its store.
 use Rattle.std.specs.Prelude.{◌+◌, ◌-◌, ◌/◌, ◌%◌, ◌^◌, ◌==◌, nat_le, nat_lt, ℕ, suc, zero, Bool, ◌&&◌, not, if◌then◌else◌, slice_index, Option, None, Some}
+use Rattle.std.specs.List.{list_any}
 use Rattle.memory_strays.specs.declared.looks.Store.{Store}
 use Rattle.xinu_base.specs.declared.processes.Process.{Process}
 use Rattle.xinu_base.specs.declared.registers.Hart.{Hart}
 use Rattle.xinu_model.specs.Events.{is_done}
+use Rattle.xinu_model.specs.Heap.Cells.{Block, Heap, free_blocks}
 use Rattle.xinu_model.specs.Isa.Instructions.{imm_s, rs1_of}
 use Rattle.xinu_model.specs.Machine.{Xinu, current_hart}
 use Rattle.xinu_model.specs.Memory.{may_access, number_at}
@@ -28,6 +30,14 @@ is_in_stack x a = nat_le (stack_low x) a && nat_lt a (stack_end x)
 unfoldable pub stack_owner : Tables → ℕ → ℕ → ℕ → Option ℕ
 stack_owner t a p zero = None
 stack_owner t a p (suc left) = if is_in_stack (process_at t p) a then Some p else stack_owner t a (p + 1) left
+
+-- whether an address is in a block of memory
+abbrev pub is_in_block : ℕ → Block → Bool
+is_in_block a b = nat_le b.0 a && nat_lt a (b.0 + b.1)
+
+-- whether an address is in a free block of the heap
+abbrev pub is_free : Heap → ℕ → Bool
+is_free h a = list_any (is_in_block a) (free_blocks h)
 
 -- how many bytes the word of a store stores; none if the word is no store
 abbrev pub store_width : ℕ → Option ℕ

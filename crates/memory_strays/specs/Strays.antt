@@ -1,6 +1,6 @@
 -- What is noted of strays: of each kind the first.
 use Rattle.std.specs.Prelude.{◌-◌, ◌/◌, ◌==◌, nat_lt, ℕ, Bool, true, false, if◌then◌else◌, List, [], ◌∷◌, length, replicate, slice_get, slice_index, slice_index_or, slice_set, Option, None, Some}
-use Rattle.memory_strays.specs.Looks.{executes, stack_low, stack_owner, store_in}
+use Rattle.memory_strays.specs.Looks.{executes, is_free, stack_low, stack_owner, store_in}
 use Rattle.memory_strays.specs.declared.looks.Store.{Store}
 use Rattle.memory_strays.specs.declared.strays.Stray.{Stray}
 use Rattle.xinu_base.specs.declared.events.Event.{Event}
@@ -14,10 +14,11 @@ pub record Noted : Type 0 where
   pub below : Option Stray
   pub stack : Option Stray
   pub code : Option Stray
+  pub free : Option Stray
 
 -- nothing was executed, and nothing strayed
 unfoldable pub nothing_noted : Noted
-nothing_noted = record { executed = replicate 262144 false; below = None; stack = None; code = None }
+nothing_noted = record { executed = replicate 262144 false; below = None; stack = None; code = None; free = None }
 
 -- a stray in the next step of a state to which so many events led: the address, how many bytes, and the process in whose stack they are
 abbrev pub strayed : ℕ → Xinu → ℕ → ℕ → ℕ → Stray
@@ -53,6 +54,11 @@ into_code taken s executed None = None
 into_code taken s executed (Some w) =
     if slice_index_or executed (w.address / 4) false then Some (strayed taken s w.address w.width s.tables.current) else None
 
+-- a store into memory that is free
+abbrev pub into_free : ℕ → Xinu → Option Store → Option Stray
+into_free taken s None = None
+into_free taken s (Some w) = if is_free s.parts.heap w.address then Some (strayed taken s w.address w.width s.tables.current) else None
+
 -- the first one, if there is one, or else this
 abbrev pub first_of : Option Stray → Option Stray → Option Stray
 first_of None next = next
@@ -66,6 +72,7 @@ note taken s x =
       below = first_of x.below (below_stack taken s);
       stack = first_of x.stack (into_stack taken s (store_in s));
       code = first_of x.code (into_code taken s x.executed (store_in s));
+      free = first_of x.free (into_free taken s (store_in s));
     } else x
 
 -- what is noted ahead of an event to which so many led: nothing but of a step

@@ -5,12 +5,13 @@
 //! | `below` | one ahead of which the stack pointer of the process is below its stack |
 //! | `stack` | one that stores into the stack of another process |
 //! | `code` | one that stores over a word that a step executed before |
+//! | `free` | one that stores into a free block of the heap |
 //!
 //! | Call | Promise |
 //! |---|---|
 //! | [`Strays::new`] | `none`: nothing is noted, or memory ran out |
 //! | [`Strays::note`] | `noted`: the next step of a state is noted as `note` says (`specs/Strays.antt`); it costs no memory |
-//! | [`Strays::below`], [`Strays::stack`], [`Strays::code`] | the first of a kind |
+//! | [`Strays::below`], [`Strays::stack`], [`Strays::code`], [`Strays::free`] | the first of a kind |
 //!
 //! A clause sees [`Strays`] as what was noted (`Noted`). What is noted of a run is `noted`, by the states ahead of its events.
 #![tactic(auto)]

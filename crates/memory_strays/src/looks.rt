@@ -1,11 +1,12 @@
 //! What the next step of a state does to memory: the process that executes, its stack, and its store.
 
-ghost use Rattle.std.specs.Prelude.{◌≡◌, ◌<◌, IfSome};
+ghost use Rattle.std.specs.Prelude.{◌≡◌, ◌<◌, ◌≤◌, ◌+◌, IfSome};
 ghost use Rattle.memory_strays.specs.Looks as specs;
 ghost use Rattle.xinu_model.specs.Machine.{current_hart};
 ghost use Rattle.xinu_model.specs.Sound.State.{IsSound};
 ghost use Rattle.xinu_model.specs.Tables.{process_at};
 
+use freelist_memory::Heap;
 use kernel_state::KernelState;
 use kernel_tables::KernelTables;
 use rv_hart::Hart;
@@ -126,4 +127,26 @@ pub(crate) fn stack_owner(tables: &KernelTables, address: u32) -> Option<Pid>
         }
     }
     None
+}
+
+/// Whether an address is in a free block of the heap.
+pub(crate) fn is_free(heap: &Heap, address: u32) -> bool
+    ensures free { result ≡ specs.is_free heap.now address }
+{
+    let mut from = 0;
+    while let Some((start, bytes)) = heap.block_from(from) {
+        if is_in_block(start, bytes, address) {
+            return true;
+        }
+        from = start + bytes;
+    }
+    false
+}
+
+// Whether an address is in a block of memory.
+fn is_in_block(start: u32, bytes: u32, address: u32) -> bool
+    requires fits { start + bytes ≤ 1048576 }
+    ensures is { result ≡ specs.is_in_block address (start, bytes) }
+{
+    start <= address && address < start + bytes
 }

@@ -7,7 +7,7 @@ ghost use Rattle.xinu_model.specs.Machine.{current_hart};
 ghost use Rattle.xinu_model.specs.Sound.State.{IsSound};
 ghost use Rattle.xinu_model.specs.Tables.{process_at};
 
-use crate::looks::{Store, current_hart, executes, stack_low, stack_owner, store_in};
+use crate::looks::{Store, current_hart, executes, is_free, stack_low, stack_owner, store_in};
 use kernel_state::KernelState;
 use std::alloc::{AllocError, Global};
 use std::marker::Model;
@@ -40,6 +40,7 @@ pub struct Strays {
     below: Option<Stray>,
     stack: Option<Stray>,
     code: Option<Stray>,
+    free: Option<Stray>,
 }
 
 impl Model for Strays {
@@ -47,7 +48,7 @@ impl Model for Strays {
 
     ghost Value = { Noted };
 
-    ghost view = { λ x. record { executed = x.executed.items; below = x.below; stack = x.stack; code = x.code } };
+    ghost view = { λ x. record { executed = x.executed.items; below = x.below; stack = x.stack; code = x.code; free = x.free } };
 }
 
 impl Strays {
@@ -65,6 +66,7 @@ impl Strays {
             below: None,
             stack: None,
             code: None,
+            free: None,
         })
     }
 
@@ -89,6 +91,13 @@ impl Strays {
         self.code
     }
 
+    /// The first store into memory that was free, if there is one.
+    pub fn free(&self) -> Option<Stray>
+        ensures free { result ≡ self.now.free }
+    {
+        self.free
+    }
+
     /// Notes the next step of a state to which so many events led, if it strays.
     pub fn note(&mut self, k: &KernelState, taken: u32)
         requires sound { IsSound k.now.call.state }
@@ -101,6 +110,9 @@ impl Strays {
         self.below = first_of(self.below, below_stack(k, taken));
         self.stack = first_of(self.stack, into_stack(k, taken, store));
         self.code = first_of(self.code, self.into_code(k, taken, store));
+        if self.free.is_none() {
+            self.free = into_free(k, taken, store);
+        }
         let place = current_hart(k).pc as usize / 4;
         if place < self.executed.len() {
             self.executed[place] = true;
@@ -173,6 +185,19 @@ fn into_stack(k: &KernelState, taken: u32, store: Option<Store>) -> Option<Stray
         None
     } else {
         Some(strayed(k, taken, address, width as u64, owner))
+    }
+}
+
+// A store into memory that is free.
+fn into_free(k: &KernelState, taken: u32, store: Option<Store>) -> Option<Stray>
+    requires sound { IsSound k.now.call.state }
+    ensures free { result ≡ specs.into_free taken k.now.call.state store }
+{
+    let Store { address, width } = store?;
+    if is_free(&k.heap, address) {
+        Some(strayed(k, taken, address, width as u64, k.tables.current()))
+    } else {
+        None
     }
 }
 

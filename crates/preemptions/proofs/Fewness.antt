@@ -1,10 +1,11 @@
 -- How many placements there are, and how many events a schedule has with one.
-use Rattle.std.proofs.Common.{◌≡◌, ◌∙◌, ℕ, zero, suc, ◌+◌, ◌*◌, ◌<◌, ◌≤◌, List, [], ◌∷◌, length, map, ap, arith, length-append}
+use Rattle.std.proofs.Common.{◌≡◌, ◌∙◌, ℕ, zero, suc, ◌+◌, ◌-◌, ◌*◌, ◌<◌, ◌≤◌, List, [], ◌∷◌, length, map, ap, arith, length-append}
 use Rattle.std.proofs.lemmas.List.{length-map}
 use Rattle.xinu_base.specs.declared.events.Event.{Event}
 use Rattle.xinu_base.specs.declared.events.Event.TheVariants.{Step, Tick, Key, Tx, Disk0, Disk1, Fail0, Fail1, Dump}
 use Rattle.preemptions.specs.Placements.{ascending_from, placements_from, placements}
 use Rattle.preemptions.specs.Preempted.{preempted, preempted_at}
+use Rattle.preemptions.specs.declared.stretches.Stretch.{Stretch}
 use Rattle.preemptions.proofs.Unfolded.{ascending_from-zero, ascending_from-none, ascending_from-suc, placements_from-zero, placements_from-suc}
 
 -- the lists of n numbers, n at most 3, are fewer than the power
@@ -36,27 +37,27 @@ of_three (suc numbers) first few =
     omega (arith, length-suc 2 first numbers, of_two numbers (first + 1) (omega arith), of_three numbers (first + 1) (omega arith))
 
 -- the lists of at most three numbers
-of_size : (n within : ℕ) → n ≤ 3 → within ≤ 1000000 → length (ascending_from n 1 within) ≤ 1000000000000000000
-of_size zero within small few = omega (arith, of_none 1 within)
-of_size (suc zero) within small few = omega (arith, of_one within 1)
-of_size (suc (suc zero)) within small few = omega (arith, of_two within 1 few)
-of_size (suc (suc (suc zero))) within small few = omega (arith, of_three within 1 few)
-of_size (suc (suc (suc (suc n)))) within small few = absurd (omega arith)
+of_size : (n first numbers : ℕ) → n ≤ 3 → numbers ≤ 1000000 → length (ascending_from n first numbers) ≤ 1000000000000000000
+of_size zero first numbers small few = omega (arith, of_none first numbers)
+of_size (suc zero) first numbers small few = omega (arith, of_one numbers first)
+of_size (suc (suc zero)) first numbers small few = omega (arith, of_two numbers first few)
+of_size (suc (suc (suc zero))) first numbers small few = omega (arith, of_three numbers first few)
+of_size (suc (suc (suc (suc n)))) first numbers small few = absurd (omega arith)
 
-of_sizes : (sizes n within : ℕ) → n + sizes ≤ 4 → within ≤ 1000000 → length (placements_from sizes n within) ≤ sizes * 1000000000000000000
-of_sizes zero n within small few = omega (arith, ap (λ (xs : List (List ℕ)). length xs) (placements_from-zero n within))
-of_sizes (suc sizes) n within small few =
+of_sizes : (sizes n : ℕ) (s : Stretch) → n + sizes ≤ 4 → s.within ≤ 1000000 → length (placements_from sizes n s) ≤ sizes * 1000000000000000000
+of_sizes zero n s small few = omega (arith, ap (λ (xs : List (List ℕ)). length xs) (placements_from-zero n s))
+of_sizes (suc sizes) n s small few =
     omega (
       arith,
-      ap (λ (xs : List (List ℕ)). length xs) (placements_from-suc sizes n within),
-      length-append (ascending_from n 1 within) (placements_from sizes (n + 1) within),
-      of_size n within (omega arith) few,
-      of_sizes sizes (n + 1) within (omega arith) few,
+      ap (λ (xs : List (List ℕ)). length xs) (placements_from-suc sizes n s),
+      length-append (ascending_from n (s.after + 1) (s.within - s.after)) (placements_from sizes (n + 1) s),
+      of_size n (s.after + 1) (s.within - s.after) (omega arith) (omega (arith, few)),
+      of_sizes sizes (n + 1) s (omega arith) few,
     )
 
 -- the placements of at most three places are fewer than 2 ^ 64
-pub few_placements : (most within : ℕ) → most ≤ 3 → within ≤ 1000000 → length (placements most within) < 18446744073709551616
-few_placements most within small few = omega (arith, of_sizes (most + 1) 0 within (omega arith) few)
+pub few_placements : (most : ℕ) (s : Stretch) → most ≤ 3 → s.within ≤ 1000000 → length (placements most s) < 18446744073709551616
+few_placements most s small few = omega (arith, of_sizes (most + 1) 0 s (omega arith) few)
 
 -- two events more for each place
 longer : (k : ℕ) (events : List Event) → length (preempted k events) ≤ length events + 2

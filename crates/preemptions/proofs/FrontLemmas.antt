@@ -6,6 +6,7 @@ use Rattle.std.proofs.lemmas.List.Elements.{All-head, All-tail, All-weaker}
 use Rattle.xinu_base.specs.declared.events.Event.{Event}
 use Rattle.xinu_base.specs.declared.events.Event.TheVariants.{Step, Tick, Key, Tx, Disk0, Disk1, Fail0, Fail1, Dump}
 use Rattle.preemptions.specs.Placements.{IsPlacement}
+use Rattle.preemptions.specs.declared.stretches.Stretch.{Stretch}
 use Rattle.preemptions.specs.Preempted.{is_step, preempted, preempted_at}
 
 pub count_step : (events : List Event) → count_by is_step (Step ∷ events) ≡ 1 + count_by is_step events
@@ -78,11 +79,12 @@ take_and_drop (suc n) [] = refl
 take_and_drop (suc n) (e ∷ events) = ap (λ (es : List Event). e ∷ es) (take_and_drop n events)
 
 -- a placement changes a front with more steps than those within which it is
-front_with_steps : (n within : ℕ) (base : List Event) → within < count_by is_step (take n base) → (most : ℕ) (places : List ℕ) → IsPlacement most within places
+front_with_steps : (n : ℕ) (s : Stretch) (base : List Event) → s.within < count_by is_step (take n base) → (most : ℕ) (places : List ℕ) → IsPlacement most s places
     → preempted_at places base ≡ preempted_at places (take n base) ++ drop n base
-front_with_steps n within base few most places is =
+front_with_steps n s base few most places is =
     ap (λ (es : List Event). preempted_at places es) (sym (take_and_drop n base))
-    ∙ preempted_at_front within places (take n base) (drop n base) (All-weaker (λ k. (1 ≤ k) × (k ≤ within)) (λ k. k ≤ within) (λ k i. i.1) places is.inside) few
+    ∙ preempted_at_front s.within places (take n base) (drop n base)
+    (All-weaker (λ k. (s.after < k) × (k ≤ s.within)) (λ k. k ≤ s.within) (λ k i. i.1) places is.inside) few
 
 -- a longer front has no fewer steps
 more_steps : (m n : ℕ) (events : List Event) → m ≤ n → count_by is_step (take m events) ≤ count_by is_step (take n events)
@@ -98,10 +100,11 @@ more_steps (suc m) (suc n) (e ∷ events) less =
     )
 
 -- and so does any longer one
-pub longer_with_steps : (m n within : ℕ) (base : List Event) → within < count_by is_step (take m base) → (most : ℕ) (places : List ℕ) → m ≤ n → IsPlacement most within places
+pub longer_with_steps : (m n : ℕ) (s : Stretch) (base : List Event) → s.within < count_by is_step (take m base) → (most : ℕ) (places : List ℕ) → m ≤ n
+    → IsPlacement most s places
     → preempted_at places base ≡ preempted_at places (take n base) ++ drop n base
-longer_with_steps m n within base few most places less is =
-    front_with_steps n within base (omega (arith, few, more_steps m n base less)) most places is
+longer_with_steps m n s base few most places less is =
+    front_with_steps n s base (omega (arith, few, more_steps m n base less)) most places is
 
 take_all_of : (n : ℕ) (events : List Event) → length events ≤ n → take n events ≡ events
 take_all_of zero [] all = refl

@@ -1,5 +1,5 @@
 -- Which lists are among the placements.
-use Rattle.std.proofs.Common.{◌≡◌, ◌≢◌, ℕ, zero, suc, ◌+◌, ◌<◌, ◌≤◌, List, [], ◌∷◌, ◌++◌, length, map, drop, get_or, refl, ap, subst, arith, ⊎_elim}
+use Rattle.std.proofs.Common.{◌≡◌, ◌≢◌, ℕ, zero, suc, ◌+◌, ◌-◌, ◌<◌, ◌≤◌, List, [], ◌∷◌, ◌++◌, length, map, drop, get_or, refl, ap, subst, arith, ⊎_elim}
 use Rattle.std.specs.Prelude.{slice_index_or}
 use Rattle.std.specs.List.{All, AllPairs, Contains}
 use Rattle.std.proofs.lemmas.Bool.{cases_lt}
@@ -7,6 +7,7 @@ use Rattle.std.proofs.lemmas.List.{length-map}
 use Rattle.std.proofs.lemmas.List.Elements.{All-append, All-cons, All-head, All-map, All-nil, All-tail, Contains-append_left, Contains-append_right}
 use Rattle.std.proofs.lemmas.List.Kept.{AllPairs-cons}
 use Rattle.preemptions.specs.Placements.{ascending_from, placements_from, placements, IsAscending, IsPlacement}
+use Rattle.preemptions.specs.declared.stretches.Stretch.{Stretch}
 use Rattle.preemptions.proofs.Unfolded.{ascending_from-zero, ascending_from-none, ascending_from-suc, placements_from-zero, placements_from-suc}
 
 -- ---- each is a placement
@@ -59,39 +60,40 @@ all_ascend (suc n) first (suc numbers) =
     (ascending_from (suc n) (first + 1) numbers) (all_ascend (suc n) (first + 1) numbers)))
 
 -- a placement with at least n places
-record IsLarge (n most within : ℕ) (places : List ℕ) : Type 0 where
+record IsLarge (n most : ℕ) (s : Stretch) (places : List ℕ) : Type 0 where
   pub many : n ≤ length places
-  pub is : IsPlacement most within places
+  pub is : IsPlacement most s places
 
-large : (n most within : ℕ) (places : List ℕ) → n ≤ most → Ascends n 1 within places → IsLarge n most within places
-large n most within places few is = record {
+large : (n most : ℕ) (s : Stretch) (places : List ℕ) → n ≤ most → Ascends n (s.after + 1) (s.within - s.after) places → IsLarge n most s places
+large n most s places few is = record {
   many = omega (arith, is.size);
   is = record {
     few = omega (arith, is.size);
     ascending = is.ascending;
-    inside = weaker (λ k. (1 ≤ k) × (k < 1 + within)) (λ k. (1 ≤ k) × (k ≤ within)) (λ k at. (at.0, omega (arith, at.1))) places is.inside;
+    inside = weaker (λ k. (s.after + 1 ≤ k) × (k < s.after + 1 + (s.within - s.after))) (λ k. (s.after < k) × (k ≤ s.within))
+        (λ k at. (omega (arith, at.0), omega (arith, at.0, at.1))) places is.inside;
   };
 }
 
-larger : (n most within : ℕ) (places : List ℕ) → IsLarge (n + 1) most within places → IsLarge n most within places
-larger n most within places is = record { many = omega (arith, is.many); is = is.is }
+larger : (n most : ℕ) (s : Stretch) (places : List ℕ) → IsLarge (n + 1) most s places → IsLarge n most s places
+larger n most s places is = record { many = omega (arith, is.many); is = is.is }
 
-all_large : (sizes n most within : ℕ) → n + sizes ≤ most + 1 → All (IsLarge n most within) (placements_from sizes n within)
-all_large zero n most within few = rw (placements_from-zero n within) (All-nil (IsLarge n most within))
-all_large (suc sizes) n most within few =
-    rw (placements_from-suc sizes n within)
-    (All-append (IsLarge n most within) (ascending_from n 1 within) (placements_from sizes (n + 1) within)
-    (weaker_lists (Ascends n 1 within) (IsLarge n most within) (λ places is. large n most within places (omega arith) is) (ascending_from n 1 within) (all_ascend n 1 within))
-    (weaker_lists (IsLarge (n + 1) most within) (IsLarge n most within) (larger n most within) (placements_from sizes (n + 1) within)
-    (all_large sizes (n + 1) most within (omega arith))))
+all_large : (sizes n most : ℕ) (s : Stretch) → n + sizes ≤ most + 1 → All (IsLarge n most s) (placements_from sizes n s)
+all_large zero n most s few = rw (placements_from-zero n s) (All-nil (IsLarge n most s))
+all_large (suc sizes) n most s few =
+    rw (placements_from-suc sizes n s)
+    (All-append (IsLarge n most s) (ascending_from n (s.after + 1) (s.within - s.after)) (placements_from sizes (n + 1) s)
+    (weaker_lists (Ascends n (s.after + 1) (s.within - s.after)) (IsLarge n most s) (λ places is. large n most s places (omega arith) is) (ascending_from n (s.after + 1) (s.within - s.after)) (all_ascend n (s.after + 1) (s.within - s.after)))
+    (weaker_lists (IsLarge (n + 1) most s) (IsLarge n most s) (larger n most s) (placements_from sizes (n + 1) s)
+    (all_large sizes (n + 1) most s (omega arith))))
 
 -- each of the placements is one
-pub all_placements : (most within : ℕ) → All (IsPlacement most within) (placements most within)
-all_placements most within =
-    weaker_lists (IsLarge 0 most within) (IsPlacement most within) (λ places is. is.is) (placements most within) (all_large (most + 1) 0 most within (omega arith))
+pub all_placements : (most : ℕ) (s : Stretch) → All (IsPlacement most s) (placements most s)
+all_placements most s =
+    weaker_lists (IsLarge 0 most s) (IsPlacement most s) (λ places is. is.is) (placements most s) (all_large (most + 1) 0 most s (omega arith))
 
-pub is_placement : (most within : ℕ) (places : List ℕ) → Contains (placements most within) places → IsPlacement most within places
-is_placement most within places among = subst (IsPlacement most within) among.2 (all_placements most within among.0 places among.1)
+pub is_placement : (most : ℕ) (s : Stretch) (places : List ℕ) → Contains (placements most s) places → IsPlacement most s places
+is_placement most s places among = subst (IsPlacement most s) among.2 (all_placements most s among.0 places among.1)
 
 -- ---- each placement is among them
 
@@ -144,27 +146,28 @@ among_ascending (suc numbers) (suc n) first (k ∷ places) is =
     (among_ascending numbers n (first + 1) places (record { size = omega (arith, is.size); ascending = is.ascending.1; inside = rest })))))
     (cases_lt first k))
 
-among_sizes : (sizes n within : ℕ) (places : List ℕ) → n ≤ length places → length places < n + sizes → Ascends (length places) 1 within places
-    → Contains (placements_from sizes n within) places
-among_sizes zero n within places many few is = absurd (omega arith)
-among_sizes (suc sizes) n within places many few is =
-    let one = ascending_from n 1 within in
-    let other = placements_from sizes (n + 1) within in
-    rw (placements_from-suc sizes n within)
+among_sizes : (sizes n : ℕ) (s : Stretch) (places : List ℕ) → n ≤ length places → length places < n + sizes → Ascends (length places) (s.after + 1) (s.within - s.after) places
+    → Contains (placements_from sizes n s) places
+among_sizes zero n s places many few is = absurd (omega arith)
+among_sizes (suc sizes) n s places many few is =
+    let one = ascending_from n (s.after + 1) (s.within - s.after) in
+    let other = placements_from sizes (n + 1) s in
+    rw (placements_from-suc sizes n s)
     (⊎_elim
-    (λ (above : n < length places). Contains-append_right one other places (among_sizes sizes (n + 1) within places (omega arith) (omega arith) is))
+    (λ (above : n < length places). Contains-append_right one other places (among_sizes sizes (n + 1) s places (omega arith) (omega arith) is))
     (λ (below : length places ≤ n).
     let equal : length places ≡ n = omega arith in
     Contains-append_left one other places
-    (subst (λ (m : ℕ). Contains (ascending_from m 1 within) places) equal (among_ascending within (length places) 1 places is)))
+    (subst (λ (m : ℕ). Contains (ascending_from m (s.after + 1) (s.within - s.after)) places) equal (among_ascending (s.within - s.after) (length places) (s.after + 1) places is)))
     (cases_lt n (length places)))
 
-pub is_among : (most within : ℕ) (places : List ℕ) → IsPlacement most within places → Contains (placements most within) places
-is_among most within places is =
-    among_sizes (most + 1) 0 within places (omega arith) (omega (arith, is.few)) (record {
+pub is_among : (most : ℕ) (s : Stretch) (places : List ℕ) → IsPlacement most s places → Contains (placements most s) places
+is_among most s places is =
+    among_sizes (most + 1) 0 s places (omega arith) (omega (arith, is.few)) (record {
       size = refl;
       ascending = is.ascending;
-      inside = weaker (λ k. (1 ≤ k) × (k ≤ within)) (λ k. (1 ≤ k) × (k < 1 + within)) (λ k at. (at.0, omega (arith, at.1))) places is.inside;
+      inside = weaker (λ k. (s.after < k) × (k ≤ s.within)) (λ k. (s.after + 1 ≤ k) × (k < s.after + 1 + (s.within - s.after)))
+          (λ k at. (omega (arith, at.0), omega (arith, at.0, at.1))) places is.inside;
     })
 
 -- ---- no two are equal
@@ -205,20 +208,20 @@ pairs_ascending (suc numbers) (suc n) first =
     (λ j d within. weaker_lists (Ascends (suc n) (first + 1) numbers) (Differ (first ∷ slice_index_or fewer j d)) (differs_first n first numbers (slice_index_or fewer j d))
     other (all_ascend (suc n) (first + 1) numbers))))
 
-differs_larger : (n most within : ℕ) (x y : List ℕ) → length x ≡ n → IsLarge (n + 1) most within y → Differ x y
-differs_larger n most within x y size is same = absurd (omega (arith, size, ap (λ (ys : List ℕ). length ys) same, is.many))
+differs_larger : (n most : ℕ) (s : Stretch) (x y : List ℕ) → length x ≡ n → IsLarge (n + 1) most s y → Differ x y
+differs_larger n most s x y size is same = absurd (omega (arith, size, ap (λ (ys : List ℕ). length ys) same, is.many))
 
-pairs_sizes : (sizes n within : ℕ) → AllPairs Differ (placements_from sizes n within)
-pairs_sizes zero n within = rw (placements_from-zero n within) (λ i j d below within_list. absurd (omega arith))
-pairs_sizes (suc sizes) n within =
-    let one = ascending_from n 1 within in
-    let other = placements_from sizes (n + 1) within in
-    rw (placements_from-suc sizes n within)
-    (pairs_append one other (pairs_ascending within n 1) (pairs_sizes sizes (n + 1) within)
-    (weaker_lists (Ascends n 1 within) (λ x. All (Differ x) other)
-    (λ x is. weaker_lists (IsLarge (n + 1) (n + sizes) within) (Differ x) (λ y large_one. differs_larger n (n + sizes) within x y is.size large_one) other
-    (all_large sizes (n + 1) (n + sizes) within (omega arith)))
-    one (all_ascend n 1 within)))
+pairs_sizes : (sizes n : ℕ) (s : Stretch) → AllPairs Differ (placements_from sizes n s)
+pairs_sizes zero n s = rw (placements_from-zero n s) (λ i j d below within_list. absurd (omega arith))
+pairs_sizes (suc sizes) n s =
+    let one = ascending_from n (s.after + 1) (s.within - s.after) in
+    let other = placements_from sizes (n + 1) s in
+    rw (placements_from-suc sizes n s)
+    (pairs_append one other (pairs_ascending (s.within - s.after) n (s.after + 1)) (pairs_sizes sizes (n + 1) s)
+    (weaker_lists (Ascends n (s.after + 1) (s.within - s.after)) (λ x. All (Differ x) other)
+    (λ x is. weaker_lists (IsLarge (n + 1) (n + sizes) s) (Differ x) (λ y large_one. differs_larger n (n + sizes) s x y is.size large_one) other
+    (all_large sizes (n + 1) (n + sizes) s (omega arith)))
+    one (all_ascend n (s.after + 1) (s.within - s.after))))
 
-pub all_differ : (most within : ℕ) → AllPairs (λ one other. one ≢ other) (placements most within)
-all_differ most within = pairs_sizes (most + 1) 0 within
+pub all_differ : (most : ℕ) (s : Stretch) → AllPairs (λ one other. one ≢ other) (placements most s)
+all_differ most s = pairs_sizes (most + 1) 0 s

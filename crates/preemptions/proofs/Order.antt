@@ -3,6 +3,7 @@ use Rattle.std.proofs.Common.{◌≡◌, ◌∙◌, ℕ, zero, suc, ◌+◌, ◌
 use Rattle.std.specs.List.{range_with_len}
 use Rattle.std.proofs.lemmas.List.FromFn.{length-range_with_len}
 use Rattle.preemptions.specs.Placements.{ascending_from, later, placements_from, placements_after}
+use Rattle.preemptions.specs.declared.stretches.Stretch.{Stretch}
 use Rattle.preemptions.proofs.Unfolded.{ascending_from-zero, ascending_from-none, ascending_from-suc, placements_from-zero, placements_from-suc, later-nil, later-cons}
 
 -- there aren't more places than numbers
@@ -61,58 +62,61 @@ moves_behind within (k ∷ front) places next size moved =
     ∙ sym (later-cons within k (front ++ next)))
 
 -- no size is left
-pub no_larger : (sizes n within : ℕ) → within < n → placements_from sizes n within ≡ []
-no_larger zero n within many = placements_from-zero n within
-no_larger (suc sizes) n within many =
-    placements_from-suc sizes n within
-    ∙ ap (λ (xs : List (List ℕ)). xs ++ placements_from sizes (n + 1) within) (none_of n 1 within many)
-    ∙ no_larger sizes (n + 1) within (omega arith)
+pub no_larger : (sizes n : ℕ) (s : Stretch) → s.within - s.after < n → placements_from sizes n s ≡ []
+no_larger zero n s many = placements_from-zero n s
+no_larger (suc sizes) n s many =
+    placements_from-suc sizes n s
+    ∙ ap (λ (xs : List (List ℕ)). xs ++ placements_from sizes (n + 1) s) (none_of n (s.after + 1) (s.within - s.after) many)
+    ∙ no_larger sizes (n + 1) s (omega arith)
 
 -- the last of all
-pub is_last : (most within : ℕ) (places : List ℕ) → later within places ≡ [] → most ≤ length places → placements_after most within places ≡ []
-is_last most within places full many =
+pub is_last : (most : ℕ) (s : Stretch) (places : List ℕ) → later s.within places ≡ [] → most ≤ length places → placements_after most s places ≡ []
+is_last most s places full many =
     let none : most - length places ≡ 0 = omega arith in
-    ap (λ (xs : List (List ℕ)). xs ++ placements_from (most - length places) (length places + 1) within) full
-    ∙ ap (λ (m : ℕ). placements_from m (length places + 1) within) none
-    ∙ placements_from-zero (length places + 1) within
+    ap (λ (xs : List (List ℕ)). xs ++ placements_from (most - length places) (length places + 1) s) full
+    ∙ ap (λ (m : ℕ). placements_from m (length places + 1) s) none
+    ∙ placements_from-zero (length places + 1) s
 
-pub is_widest : (most within : ℕ) (places : List ℕ) → later within places ≡ [] → within ≤ length places → placements_after most within places ≡ []
-is_widest most within places full many =
-    ap (λ (xs : List (List ℕ)). xs ++ placements_from (most - length places) (length places + 1) within) full
-    ∙ no_larger (most - length places) (length places + 1) within (omega arith)
+pub is_widest : (most : ℕ) (s : Stretch) (places : List ℕ) → later s.within places ≡ [] → s.within - s.after ≤ length places
+    → placements_after most s places ≡ []
+is_widest most s places full many =
+    ap (λ (xs : List (List ℕ)). xs ++ placements_from (most - length places) (length places + 1) s) full
+    ∙ no_larger (most - length places) (length places + 1) s (omega arith)
 
 -- the first of the next size
-pub grows : (most within n : ℕ) (places : List ℕ) → later within places ≡ [] → length places < most → length places < within → n ≡ length places + 1
-    → placements_after most within places ≡ range_with_len 1 n ∷ placements_after most within (range_with_len 1 n)
-grows most within n places full few room is =
-    let next = range_with_len 1 n in
+pub grows : (most n : ℕ) (s : Stretch) (places : List ℕ) → later s.within places ≡ [] → length places < most → length places < s.within - s.after
+    → n ≡ length places + 1
+    → placements_after most s places ≡ range_with_len (s.after + 1) n ∷ placements_after most s (range_with_len (s.after + 1) n)
+grows most n s places full few room is =
+    let next = range_with_len (s.after + 1) n in
     let more : most - length places ≡ suc (most - n) = omega arith in
-    let size : length next ≡ n = length-range_with_len 1 n in
-    ap (λ (xs : List (List ℕ)). xs ++ placements_from (most - length places) (length places + 1) within) full
-    ∙ ap (λ (m : ℕ). placements_from m (length places + 1) within) more
-    ∙ ap (λ (m : ℕ). placements_from (suc (most - n)) m within) (sym is)
-    ∙ placements_from-suc (most - n) n within
-    ∙ ap (λ (xs : List (List ℕ)). xs ++ placements_from (most - n) (n + 1) within) (first_of n 1 within within (omega arith) (omega arith))
-    ∙ ap (λ (m : ℕ). next ∷ (later within next ++ placements_from (most - m) (m + 1) within)) (sym size)
+    let size : length next ≡ n = length-range_with_len (s.after + 1) n in
+    ap (λ (xs : List (List ℕ)). xs ++ placements_from (most - length places) (length places + 1) s) full
+    ∙ ap (λ (m : ℕ). placements_from m (length places + 1) s) more
+    ∙ ap (λ (m : ℕ). placements_from (suc (most - n)) m s) (sym is)
+    ∙ placements_from-suc (most - n) n s
+    ∙ ap (λ (xs : List (List ℕ)). xs ++ placements_from (most - n) (n + 1) s)
+    (first_of n (s.after + 1) (s.within - s.after) s.within (omega arith) (omega (arith, room)))
+    ∙ ap (λ (m : ℕ). next ∷ (later s.within next ++ placements_from (most - m) (m + 1) s)) (sym size)
 
 -- the next one of the same size
-pub goes_on : (most within : ℕ) (places next : List ℕ) → length next ≡ length places → later within places ≡ next ∷ later within next
-    → placements_after most within places ≡ next ∷ placements_after most within next
-goes_on most within places next size moved =
-    ap (λ (xs : List (List ℕ)). xs ++ placements_from (most - length places) (length places + 1) within) moved
-    ∙ ap (λ (m : ℕ). next ∷ (later within next ++ placements_from (most - m) (m + 1) within)) (sym size)
+pub goes_on : (most : ℕ) (s : Stretch) (places next : List ℕ) → length next ≡ length places → later s.within places ≡ next ∷ later s.within next
+    → placements_after most s places ≡ next ∷ placements_after most s next
+goes_on most s places next size moved =
+    ap (λ (xs : List (List ℕ)). xs ++ placements_from (most - length places) (length places + 1) s) moved
+    ∙ ap (λ (m : ℕ). next ∷ (later s.within next ++ placements_from (most - m) (m + 1) s)) (sym size)
 
 -- all are the first one and those after it
-pub starts : (most within : ℕ) (places : List ℕ) → places ≡ [] → places ∷ placements_after most within places ≡ placements_from (most + 1) 0 within
-starts most within places none =
+pub starts : (most : ℕ) (s : Stretch) (places : List ℕ) → places ≡ [] → places ∷ placements_after most s places ≡ placements_from (most + 1) 0 s
+starts most s places none =
     let more : most + 1 ≡ suc most = omega arith in
     let all : most - 0 ≡ most = omega arith in
     rw (none, all)
     (sym
-    (ap (λ (m : ℕ). placements_from m 0 within) more
-    ∙ placements_from-suc most 0 within
-    ∙ ap (λ (xs : List (List ℕ)). xs ++ placements_from most 1 within) (ascending_from-zero 1 within)
-    ∙ ap (λ (xs : List (List ℕ)). [] ∷ (xs ++ placements_from most 1 within)) (sym (later-nil within))))
+    (ap (λ (m : ℕ). placements_from m 0 s) more
+    ∙ placements_from-suc most 0 s
+    ∙ ap (λ (xs : List (List ℕ)). xs ++ placements_from most 1 s) (ascending_from-zero (s.after + 1) (s.within - s.after))
+    ∙ ap (λ (xs : List (List ℕ)). [] ∷ (xs ++ placements_from most 1 s)) (sym (later-nil s.within))))
 
 -- numbers that follow one another
 pub range_with_len-more : (first n : ℕ) → range_with_len first (n + 1) ≡ range_with_len first n ++ (first + n) ∷ []

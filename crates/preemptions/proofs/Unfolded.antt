@@ -1,6 +1,7 @@
 -- The definitions, one step.
 use Rattle.std.proofs.Common.{◌≡◌, ℕ, suc, ◌+◌, ◌-◌, List, [], ◌∷◌, ◌++◌, length, map, refl}
 use Rattle.preemptions.specs.Placements.{ascending_from, later, placements_from}
+use Rattle.preemptions.specs.declared.stretches.Stretch.{Stretch}
 
 pub ascending_from-zero : (first numbers : ℕ) → ascending_from 0 first numbers ≡ [] ∷ []
 unfolding ascending_from
@@ -15,13 +16,14 @@ pub ascending_from-suc : (n first numbers : ℕ)
 unfolding ascending_from
 ascending_from-suc n first numbers = refl
 
-pub placements_from-zero : (n within : ℕ) → placements_from 0 n within ≡ []
+pub placements_from-zero : (n : ℕ) (s : Stretch) → placements_from 0 n s ≡ []
 unfolding placements_from
-placements_from-zero n within = refl
+placements_from-zero n s = refl
 
-pub placements_from-suc : (sizes n within : ℕ) → placements_from (suc sizes) n within ≡ ascending_from n 1 within ++ placements_from sizes (n + 1) within
+pub placements_from-suc : (sizes n : ℕ) (s : Stretch)
+    → placements_from (suc sizes) n s ≡ ascending_from n (s.after + 1) (s.within - s.after) ++ placements_from sizes (n + 1) s
 unfolding placements_from
-placements_from-suc sizes n within = refl
+placements_from-suc sizes n s = refl
 
 pub later-nil : (within : ℕ) → later within [] ≡ []
 unfolding later

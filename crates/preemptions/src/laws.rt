@@ -5,22 +5,23 @@ ghost use Rattle.std.specs.List.{All, AllPairs, Contains, count_by};
 ghost use Rattle.preemptions.specs.Moments.{Preempts, moments};
 ghost use Rattle.preemptions.specs.Placements.{IsAscending, IsPlacement, placements};
 ghost use Rattle.preemptions.specs.Preempted.{is_step, preempted_at};
+ghost use Rattle.preemptions.specs.declared.stretches.Stretch.{Stretch};
 ghost use Rattle.xinu_base.specs.declared.events.Event.{Event};
 
 /// A list is among the placements if and only if it is a placement.
 pub fn placements_are_all()
-    ensures to { (most within : ℕ) (places : List ℕ) → IsPlacement most within places → Contains (placements most within) places }
-    ensures from { (most within : ℕ) (places : List ℕ) → Contains (placements most within) places → IsPlacement most within places }
+    ensures to { (most : ℕ) (stretch : Stretch) (places : List ℕ) → IsPlacement most stretch places → Contains (placements most stretch) places }
+    ensures from { (most : ℕ) (stretch : Stretch) (places : List ℕ) → Contains (placements most stretch) places → IsPlacement most stretch places }
 {}
 
 /// No two of the placements are equal.
 pub fn placements_differ()
-    ensures { (most within : ℕ) → AllPairs (λ one other. one ≢ other) (placements most within) }
+    ensures { (most : ℕ) (stretch : Stretch) → AllPairs (λ one other. one ≢ other) (placements most stretch) }
 {}
 
 /// The first of the placements has no place.
 pub fn first_is_empty()
-    ensures { (most within : ℕ) → placements most within ≡ [] ∷ drop 1 (placements most within) }
+    ensures { (most : ℕ) (stretch : Stretch) → placements most stretch ≡ [] ∷ drop 1 (placements most stretch) }
 {}
 
 /// The preemptions of a placement within the steps of a schedule come at its moments: so many events come before each, then two ticks and its step.

@@ -6,11 +6,11 @@
 //!
 //! | Call | Promise |
 //! |---|---|
-//! | [`Placements::new`] | `all`: all placements of at most so many places within so many steps, each once: those with fewer places first, and of as many places the earlier ones |
+//! | [`Placements::new`] | `all`: all placements of at most so many places in a [`Stretch`], each once: those with fewer places first, and of as many places the earlier ones |
 //! | [`Placements::first`] | `first`: the first placement that is still to come; `None` if and only if there is none |
 //! | [`Placements::advance`] | `next`: the first is taken off; at `NoMemory` all are still to come |
 //! | [`preempt`] | `events`: the events with a quantum's end at each of the places |
-//! | [`front`] | `parts`: a placement within so many steps changes the events up to the step that follows them, and none after it |
+//! | [`front`] | `parts`: a placement in a stretch changes the events up to the step that follows it, and none after that |
 //! | [`events_before`] | `before`: how many events come before the step that follows so many steps |
 //! | [`laws`] | a list is among the placements if and only if it is a placement; no two of them are equal; the first is the one with no place |
 //!
@@ -23,8 +23,10 @@ pub mod laws;
 mod moments;
 mod next;
 mod placements;
+mod stretches;
 
 pub use events::preempt;
 pub use fronts::front;
 pub use moments::events_before;
 pub use placements::Placements;
+pub use stretches::Stretch;

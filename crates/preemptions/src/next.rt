@@ -4,28 +4,33 @@ ghost use Rattle.std.specs.Prelude.{◌≡◌, ◌+◌, ◌-◌, ◌≤◌, ◌<
 ghost use Rattle.std.specs.List.{range_with_len};
 ghost use Rattle.preemptions.specs.Placements as spec;
 
+use crate::stretches::Stretch;
 use std::alloc::AllocError;
 
-/// Makes these places the next placement of at most `most` places within so many steps, and answers whether there is any. If not, they stay.
+/// Makes these places the next placement of at most `most` places in a stretch, and answers whether there is any. If not, they stay.
 ///
 /// # Errors
 /// Out of memory; the places stay.
-pub(crate) fn next_places(places: &mut Vec<u32>, most: u32, within: u32) -> Result<bool, AllocError>
+pub(crate) fn next_places(
+    places: &mut Vec<u32>,
+    most: u32,
+    stretch: Stretch,
+) -> Result<bool, AllocError>
     requires few { length places.old.items ≤ most }
-    ensures next { IfOk result (λ is_more. spec.placements_after most within places.old.items ≡ (if is_more then places.new.items ∷ spec.placements_after most within places.new.items else [])) }
+    ensures next { IfOk result (λ is_more. spec.placements_after most stretch places.old.items ≡ (if is_more then places.new.items ∷ spec.placements_after most stretch places.new.items else [])) }
     ensures few { OnOk result (length places.new.items ≤ most) }
     ensures kept { OnErr result (places.new.items ≡ places.old.items) }
 {
-    if keep_size(places, within) {
+    if keep_size(places, stretch.within) {
         return Ok(true);
     }
     if places.len() >= most as usize {
         return Ok(false);
     }
-    if places.len() >= within as usize {
+    if places.len() >= stretch.size() as usize {
         return Ok(false);
     }
-    grow(places)?;
+    grow(places, stretch.after + 1)?;
     Ok(true)
 }
 
@@ -38,14 +43,14 @@ fn keep_size(places: &mut Vec<u32>, within: u32) -> bool
     move_on(places.as_mut_slice(), within)
 }
 
-// Makes these places the first ones of one place more.
-fn grow(places: &mut Vec<u32>) -> Result<(), AllocError>
-    requires few { length places.old.items < 4294967295 }
-    ensures first { OnOk result (places.new.items ≡ range_with_len 1 (length places.old.items + 1)) }
+// Makes these places the first ones of one place more, from this one on.
+fn grow(places: &mut Vec<u32>, first: u32) -> Result<(), AllocError>
+    requires few { first + length places.old.items < 4294967296 }
+    ensures first { OnOk result (places.new.items ≡ range_with_len first (length places.old.items + 1)) }
     ensures kept { OnErr result (places.new.items ≡ places.old.items) }
 {
     places.push(0)?;
-    fill(places.as_mut_slice(), 0, 1);
+    fill(places.as_mut_slice(), 0, first);
     Ok(())
 }
 

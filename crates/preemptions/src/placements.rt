@@ -4,6 +4,7 @@ ghost use Rattle.std.specs.Prelude.{◌≡◌, ◌≤◌, ◌<◌, [], ◌∷◌
 ghost use Rattle.preemptions.specs.Placements as spec;
 
 use crate::next::next_places;
+use crate::stretches::Stretch;
 use std::alloc::Global;
 use std::marker::Model;
 use xinu_base::NoMemory;
@@ -17,8 +18,8 @@ pub struct Placements {
     has_ended: bool,
     /// How many places a placement has at most.
     most: u32,
-    /// The last place.
-    within: u32,
+    /// Where the places lie.
+    stretch: Stretch,
 }
 
 impl Model for Placements {
@@ -27,21 +28,21 @@ impl Model for Placements {
 
     ghost Value = { List (List ℕ) };
 
-    ghost view = { λ p. if p.has_ended then [] else (p.places.items ∷ placements_after p.most p.within p.places.items) };
+    ghost view = { λ p. if p.has_ended then [] else (p.places.items ∷ placements_after p.most p.stretch p.places.items) };
 
     ghost invariant = { λ p. length p.places.items ≤ p.most };
 }
 
 impl Placements {
-    /// All placements with at most so many places within so many steps.
-    pub fn new(alloc: Global, most: u32, within: u32) -> Placements
-        ensures all { result ≡ spec.placements most within }
+    /// All placements with at most so many places in a stretch.
+    pub fn new(alloc: Global, most: u32, stretch: Stretch) -> Placements
+        ensures all { result ≡ spec.placements most stretch }
     {
         Placements {
             places: Vec::new(alloc),
             has_ended: false,
             most,
-            within,
+            stretch,
         }
     }
 
@@ -66,7 +67,7 @@ impl Placements {
         if self.has_ended {
             return Ok(());
         }
-        match next_places(&mut self.places, self.most, self.within) {
+        match next_places(&mut self.places, self.most, self.stretch) {
             Ok(is_more) => {
                 self.has_ended = !is_more;
                 Ok(())

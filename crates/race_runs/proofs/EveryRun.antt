@@ -5,6 +5,7 @@ use Rattle.std.proofs.lemmas.List.Elements.{All-contains, Contains-append_right}
 use Rattle.preemptions.proofs.Members.{is_among}
 use Rattle.preemptions.specs.Placements.{IsPlacement, placements}
 use Rattle.preemptions.specs.Preempted.{preempted_at}
+use Rattle.preemptions.specs.declared.stretches.Stretch.{Stretch}
 use Rattle.race_tables.specs.Outcomes.{Outcome}
 use Rattle.race_runs.specs.Runs.{ComesTo, ComesToOn, outcome_of}
 use Rattle.race_runs.specs.Explored.{Explores}
@@ -50,13 +51,13 @@ run_of (x ∷ xs) places (suc k, within, is) =
     record { run = later.run; among = Contains-append_right (x ∷ []) xs later.run later.among; at = later.at }
 
 -- every run of a placement has its row
-pub has_its_row : (disks : Disks) (images : List Loaded) (base : List Event) (most within : ℕ) (table : List Row) (places : List ℕ) (start : Xinu) (outcome : Outcome)
-    → Explores disks images base (placements most within) table → IsPlacement most within places → boot_on disks images ≡ Boots start
+pub has_its_row : (disks : Disks) (images : List Loaded) (base : List Event) (most : ℕ) (stretch : Stretch) (table : List Row) (places : List ℕ) (start : Xinu) (outcome : Outcome)
+    → Explores disks images base (placements most stretch) table → IsPlacement most stretch places → boot_on disks images ≡ Boots start
     → ChoosesNothing start (preempted_at places base) → ComesTo start (preempted_at places base) outcome
     → HasRow table (record { places = places; outcome = outcome })
-has_its_row disks images base most within table places start outcome explores good boots none comes =
+has_its_row disks images base most stretch table places start outcome explores good boots none comes =
     let counted = run_of explores.runs places
-    (subst (λ (all : List (List ℕ)). Contains all places) (sym explores.are) (is_among most within places good)) in
+    (subst (λ (all : List (List ℕ)). Contains all places) (sym explores.are) (is_among most stretch places good)) in
     let real = All-contains (λ (run : Run). ComesToOn disks images (preempted_at run.places base) run.outcome) explores.runs counted.run explores.real counted.among in
     let same = same_outcome_on disks images start (preempted_at places base) counted.run.outcome outcome boots none
     (subst (λ (ps : List ℕ). ComesToOn disks images (preempted_at ps base) counted.run.outcome) counted.at real) comes in
@@ -68,10 +69,10 @@ has_its_row disks images base most within table places start outcome explores go
     }
 
 -- and its outcome, if one row is left and nothing is chosen in the runs of all placements
-pub has_the_outcome : (disks : Disks) (images : List Loaded) (base : List Event) (most within : ℕ) (row : Row) (places : List ℕ) (start : Xinu) (outcome : Outcome)
-    → Explores disks images base (placements most within) (row ∷ []) → AreForced true disks images base (placements most within) → IsPlacement most within places
+pub has_the_outcome : (disks : Disks) (images : List Loaded) (base : List Event) (most : ℕ) (stretch : Stretch) (row : Row) (places : List ℕ) (start : Xinu) (outcome : Outcome)
+    → Explores disks images base (placements most stretch) (row ∷ []) → AreForced true disks images base (placements most stretch) → IsPlacement most stretch places
     → boot_on disks images ≡ Boots start → ComesTo start (preempted_at places base) outcome → outcome ≡ row.outcome
-has_the_outcome disks images base most within row places start outcome explores forced good boots comes =
-    let forces = All-contains (λ (ps : List ℕ). ForcesOn true disks images (preempted_at ps base)) (placements most within) places (forced.nothing refl) (is_among most within places good) in
-    let has = has_its_row disks images base most within (row ∷ []) places start outcome explores good boots (forces.nothing refl start boots) comes in
+has_the_outcome disks images base most stretch row places start outcome explores forced good boots comes =
+    let forces = All-contains (λ (ps : List ℕ). ForcesOn true disks images (preempted_at ps base)) (placements most stretch) places (forced.nothing refl) (is_among most stretch places good) in
+    let has = has_its_row disks images base most stretch (row ∷ []) places start outcome explores good boots (forces.nothing refl start boots) comes in
     sym has.is ∙ ap (λ (r : Row). r.outcome) (sym (only row has.row has.among))

@@ -12,17 +12,18 @@ use Rattle.race_tables.proofs.Tables.{adds_up, all_rows}
 use Rattle.preemptions.proofs.Members.{all_placements}
 use Rattle.preemptions.specs.Placements.{IsPlacement, placements}
 use Rattle.preemptions.specs.Preempted.{preempted_at}
+use Rattle.preemptions.specs.declared.stretches.Stretch.{Stretch}
 use Rattle.race_runs.specs.Runs.{ComesToOn}
 use Rattle.xinu_base.specs.declared.events.Event.{Event}
 use Rattle.xinu_model.specs.Boot.{Disks, Loaded}
 
 -- some placements were gone through, in which nothing was chosen if the flag says so, and these are left
-pub record UnderWay (are_forced : Bool) (disks : Disks) (images : List Loaded) (base : List Event) (most within : ℕ) (all left : List (List ℕ)) (table : List Row) : Type 0 where
+pub record UnderWay (are_forced : Bool) (disks : Disks) (images : List Loaded) (base : List Event) (most : ℕ) (stretch : Stretch) (all left : List (List ℕ)) (table : List Row) : Type 0 where
   pub tried : List (List ℕ)
   pub split : tried ++ left ≡ all
   pub explores : Explores disks images base tried table
   pub forced : AreForced are_forced disks images base tried
-  pub good : All (IsPlacement most within) left
+  pub good : All (IsPlacement most stretch) left
 
 -- nothing is chosen with this placement
 abbrev ForcedWith : Disks → List Loaded → List Event → List ℕ → Type 0
@@ -42,9 +43,9 @@ all_mapped P (x ∷ xs) all =
     All-cons (λ run. P run.places) x xs (All-head P x.places (map (λ run. run.places) xs) all) (all_mapped P xs (All-tail P x.places (map (λ run. run.places) xs) all))
 
 -- at the start none was
-pub under_way-start : (are_forced : Bool) (disks : Disks) (images : List Loaded) (base : List Event) (most within : ℕ) (all : List (List ℕ)) (table : List Row) → table ≡ [] → All (IsPlacement most within) all
-    → UnderWay are_forced disks images base most within all all table
-under_way-start are_forced disks images base most within all table none good = record {
+pub under_way-start : (are_forced : Bool) (disks : Disks) (images : List Loaded) (base : List Event) (most : ℕ) (stretch : Stretch) (all : List (List ℕ)) (table : List Row) → table ≡ [] → All (IsPlacement most stretch) all
+    → UnderWay are_forced disks images base most stretch all all table
+under_way-start are_forced disks images base most stretch all table none good = record {
   tried = [];
   split = refl;
   explores = record { runs = []; are = refl; real = All-nil (λ run. ComesToOn disks images (preempted_at run.places base) run.outcome); is = none ∙ rows-none };
@@ -76,38 +77,38 @@ forced-more were_forced is_forced both disks images base tried places were force
       All-push (ForcedWith disks images base) tried places (were.nothing each.0) (record { nothing = λ _. forces.nothing each.1 });
 }
 
-pub under_way-more : {are_forced : Bool} (is_forced both : Bool) (disks : Disks) (images : List Loaded) (base : List Event) (most within : ℕ) (all left rest : List (List ℕ)) (table : List Row) (places : List ℕ) (outcome : Outcome) (next : List Row)
-    → UnderWay are_forced disks images base most within all left table → left ≡ places ∷ rest → ComesToOn disks images (preempted_at places base) outcome
+pub under_way-more : {are_forced : Bool} (is_forced both : Bool) (disks : Disks) (images : List Loaded) (base : List Event) (most : ℕ) (stretch : Stretch) (all left rest : List (List ℕ)) (table : List Row) (places : List ℕ) (outcome : Outcome) (next : List Row)
+    → UnderWay are_forced disks images base most stretch all left table → left ≡ places ∷ rest → ComesToOn disks images (preempted_at places base) outcome
     → ((runs : List Run) → table ≡ rows runs → next ≡ rows (runs ++ record { places = places; outcome = outcome } ∷ []))
     → ForcesOn is_forced disks images (preempted_at places base) → both ≡ (are_forced && is_forced)
-    → UnderWay both disks images base most within all rest next
-under_way-more {are_forced} is_forced both disks images base most within all left rest table places outcome next so_far is comes added forces same = record {
+    → UnderWay both disks images base most stretch all rest next
+under_way-more {are_forced} is_forced both disks images base most stretch all left rest table places outcome next so_far is comes added forces same = record {
   tried = so_far.tried ++ places ∷ [];
   split = append_assoc so_far.tried (places ∷ []) rest ∙ ap (λ (ps : List (List ℕ)). so_far.tried ++ ps) (sym is) ∙ so_far.split;
   explores = explores-more disks images base so_far.tried table places outcome next so_far.explores comes added;
   forced = forced-more are_forced is_forced both disks images base so_far.tried places so_far.forced forces same;
-  good = All-tail (IsPlacement most within) places rest (subst (λ (ps : List (List ℕ)). All (IsPlacement most within) ps) is so_far.good);
+  good = All-tail (IsPlacement most stretch) places rest (subst (λ (ps : List (List ℕ)). All (IsPlacement most stretch) ps) is so_far.good);
 }
 
 -- the first of those that are left is a placement
-pub first_is_good : {are_forced : Bool} (disks : Disks) (images : List Loaded) (base : List Event) (most within : ℕ) (all left rest : List (List ℕ)) (table : List Row) (places : List ℕ)
-    → UnderWay are_forced disks images base most within all left table → left ≡ places ∷ rest → IsPlacement most within places
-first_is_good disks images base most within all left rest table places so_far is =
-    All-head (IsPlacement most within) places rest (subst (λ (ps : List (List ℕ)). All (IsPlacement most within) ps) is so_far.good)
+pub first_is_good : {are_forced : Bool} (disks : Disks) (images : List Loaded) (base : List Event) (most : ℕ) (stretch : Stretch) (all left rest : List (List ℕ)) (table : List Row) (places : List ℕ)
+    → UnderWay are_forced disks images base most stretch all left table → left ≡ places ∷ rest → IsPlacement most stretch places
+first_is_good disks images base most stretch all left rest table places so_far is =
+    All-head (IsPlacement most stretch) places rest (subst (λ (ps : List (List ℕ)). All (IsPlacement most stretch) ps) is so_far.good)
 
 -- what holds of the events of the front with the first of them, and the back, holds of the base's with it
-pub through_parts : {are_forced : Bool} (P : List Event → Type 0) (disks : Disks) (images : List Loaded) (base front back : List Event) (most within cut : ℕ) (all left rest : List (List ℕ)) (table : List Row) (places : List ℕ)
-    → UnderWay are_forced disks images base most within all left table → left ≡ places ∷ rest
-    → ((m : ℕ) (ps : List ℕ) → IsPlacement m within ps → preempted_at ps base ≡ preempted_at ps (take cut base) ++ drop cut base)
+pub through_parts : {are_forced : Bool} (P : List Event → Type 0) (disks : Disks) (images : List Loaded) (base front back : List Event) (most : ℕ) (stretch : Stretch) (cut : ℕ) (all left rest : List (List ℕ)) (table : List Row) (places : List ℕ)
+    → UnderWay are_forced disks images base most stretch all left table → left ≡ places ∷ rest
+    → ((m : ℕ) (ps : List ℕ) → IsPlacement m stretch ps → preempted_at ps base ≡ preempted_at ps (take cut base) ++ drop cut base)
     → front ≡ take cut base → back ≡ drop cut base → P (preempted_at places front ++ back) → P (preempted_at places base)
-through_parts P disks images base front back most within cut all left rest table places so_far is parts front_is back_is holds =
-    let whole = parts most places (first_is_good disks images base most within all left rest table places so_far is) in
+through_parts P disks images base front back most stretch cut all left rest table places so_far is parts front_is back_is holds =
+    let whole = parts most places (first_is_good disks images base most stretch all left rest table places so_far is) in
     subst P (ap (λ (f : List Event). preempted_at places f ++ back) front_is ∙ ap (λ (b : List Event). preempted_at places (take cut base) ++ b) back_is ∙ sym whole) holds
 
 -- the counts stay below the number of placements
-pub counts_fit : {are_forced : Bool} (disks : Disks) (images : List Loaded) (base : List Event) (most within : ℕ) (all left rest : List (List ℕ)) (table : List Row) (places : List ℕ)
-    → UnderWay are_forced disks images base most within all left table → left ≡ places ∷ rest → sum (map (λ row. row.count) table) < length all
-counts_fit disks images base most within all left rest table places so_far is =
+pub counts_fit : {are_forced : Bool} (disks : Disks) (images : List Loaded) (base : List Event) (most : ℕ) (stretch : Stretch) (all left rest : List (List ℕ)) (table : List Row) (places : List ℕ)
+    → UnderWay are_forced disks images base most stretch all left table → left ≡ places ∷ rest → sum (map (λ row. row.count) table) < length all
+counts_fit disks images base most stretch all left rest table places so_far is =
     let total : sum (map (λ row. row.count) table) ≡ length so_far.explores.runs =
     ap (λ (t : List Row). sum (map (λ row. row.count) t)) so_far.explores.is ∙ adds_up so_far.explores.runs in
     let size : length so_far.explores.runs ≡ length so_far.tried =
@@ -122,38 +123,38 @@ counts_fit disks images base most within all left rest table places so_far is =
     )
 
 -- none is left
-pub under_way-end : {are_forced : Bool} (disks : Disks) (images : List Loaded) (base : List Event) (most within : ℕ) (all left : List (List ℕ)) (table : List Row) → UnderWay are_forced disks images base most within all left table → left ≡ []
+pub under_way-end : {are_forced : Bool} (disks : Disks) (images : List Loaded) (base : List Event) (most : ℕ) (stretch : Stretch) (all left : List (List ℕ)) (table : List Row) → UnderWay are_forced disks images base most stretch all left table → left ≡ []
     → Explores disks images base all table
-under_way-end disks images base most within all left table so_far none =
+under_way-end disks images base most stretch all left table so_far none =
     subst (λ (ps : List (List ℕ)). Explores disks images base ps table)
     (sym (append-nil so_far.tried) ∙ ap (λ (ps : List (List ℕ)). so_far.tried ++ ps) (sym none) ∙ so_far.split)
     so_far.explores
 
 -- and nothing was chosen in them, if the flag says so
-pub forced-end : {are_forced : Bool} (disks : Disks) (images : List Loaded) (base : List Event) (most within : ℕ) (all left : List (List ℕ)) (table : List Row) → UnderWay are_forced disks images base most within all left table → left ≡ []
+pub forced-end : {are_forced : Bool} (disks : Disks) (images : List Loaded) (base : List Event) (most : ℕ) (stretch : Stretch) (all left : List (List ℕ)) (table : List Row) → UnderWay are_forced disks images base most stretch all left table → left ≡ []
     → AreForced are_forced disks images base all
-forced-end {are_forced} disks images base most within all left table so_far none =
+forced-end {are_forced} disks images base most stretch all left table so_far none =
     subst (λ (ps : List (List ℕ)). AreForced are_forced disks images base ps)
     (sym (append-nil so_far.tried) ∙ ap (λ (ps : List (List ℕ)). so_far.tried ++ ps) (sym none) ∙ so_far.split)
     so_far.forced
 
 -- some were gone through
-pub some-under_way : {are_forced : Bool} (disks : Disks) (images : List Loaded) (base : List Event) (most within : ℕ) (all left : List (List ℕ)) (table : List Row) → UnderWay are_forced disks images base most within all left table
+pub some-under_way : {are_forced : Bool} (disks : Disks) (images : List Loaded) (base : List Event) (most : ℕ) (stretch : Stretch) (all left : List (List ℕ)) (table : List Row) → UnderWay are_forced disks images base most stretch all left table
     → ExploresSome disks images base all table
-some-under_way disks images base most within all left table so_far =
+some-under_way disks images base most stretch all left table so_far =
     record { tried = so_far.tried; left = left; split = so_far.split; explores = so_far.explores }
 
 -- the placements of the rows are placements
-pub first_are_placements : (disks : Disks) (images : List Loaded) (base : List Event) (most within : ℕ) (tried left all : List (List ℕ)) (table : List Row)
-    → Explores disks images base tried table → tried ++ left ≡ all → All (IsPlacement most within) all → All (λ row. IsPlacement most within row.first) table
-first_are_placements disks images base most within tried left all table explores split good =
-    let here : All (IsPlacement most within) tried =
-    All-append_left (IsPlacement most within) tried left (subst (λ (ps : List (List ℕ)). All (IsPlacement most within) ps) (sym split) good) in
-    let runs : All (λ run. IsPlacement most within run.places) explores.runs =
-    all_mapped (IsPlacement most within) explores.runs (subst (λ (ps : List (List ℕ)). All (IsPlacement most within) ps) (sym explores.are) here) in
-    subst (λ (t : List Row). All (λ row. IsPlacement most within row.first) t) (sym explores.is) (all_rows (IsPlacement most within) explores.runs runs)
+pub first_are_placements : (disks : Disks) (images : List Loaded) (base : List Event) (most : ℕ) (stretch : Stretch) (tried left all : List (List ℕ)) (table : List Row)
+    → Explores disks images base tried table → tried ++ left ≡ all → All (IsPlacement most stretch) all → All (λ row. IsPlacement most stretch row.first) table
+first_are_placements disks images base most stretch tried left all table explores split good =
+    let here : All (IsPlacement most stretch) tried =
+    All-append_left (IsPlacement most stretch) tried left (subst (λ (ps : List (List ℕ)). All (IsPlacement most stretch) ps) (sym split) good) in
+    let runs : All (λ run. IsPlacement most stretch run.places) explores.runs =
+    all_mapped (IsPlacement most stretch) explores.runs (subst (λ (ps : List (List ℕ)). All (IsPlacement most stretch) ps) (sym explores.are) here) in
+    subst (λ (t : List Row). All (λ row. IsPlacement most stretch row.first) t) (sym explores.is) (all_rows (IsPlacement most stretch) explores.runs runs)
 
-pub under_way-first : {are_forced : Bool} (disks : Disks) (images : List Loaded) (base : List Event) (most within : ℕ) (left : List (List ℕ)) (table : List Row)
-    → UnderWay are_forced disks images base most within (placements most within) left table → All (λ row. IsPlacement most within row.first) table
-under_way-first disks images base most within left table so_far =
-    first_are_placements disks images base most within so_far.tried left (placements most within) table so_far.explores so_far.split (all_placements most within)
+pub under_way-first : {are_forced : Bool} (disks : Disks) (images : List Loaded) (base : List Event) (most : ℕ) (stretch : Stretch) (left : List (List ℕ)) (table : List Row)
+    → UnderWay are_forced disks images base most stretch (placements most stretch) left table → All (λ row. IsPlacement most stretch row.first) table
+under_way-first disks images base most stretch left table so_far =
+    first_are_placements disks images base most stretch so_far.tried left (placements most stretch) table so_far.explores so_far.split (all_placements most stretch)

@@ -17,7 +17,7 @@ use crate::runs::{Ran, run_on};
 use image_loader::Image;
 use lfs_layout::{CleanImage, RawImage};
 use machine::BootFault;
-use preemptions::{Placements, preempt};
+use preemptions::{Placements, Stretch, preempt};
 use race_tables::{Row, count_run};
 use std::alloc::Global;
 use xinu_base::Event;
@@ -27,7 +27,7 @@ const SETTLING: usize = 4096;
 // How many events are worth the copy and the comparison of a machine.
 const LONG: usize = 32768;
 
-/// Runs the images on these disks through the base's events with each placement of at most `most` quantum ends within its first steps, in
+/// Runs the images on these disks through the base's events with each placement of at most `most` quantum ends in a stretch of its steps, in
 /// their order, and puts the outcomes into a table that is empty before. The progress is told of each that was gone through. Answers whether nothing
 /// was chosen in them, so that there are no other runs.
 ///
@@ -40,7 +40,7 @@ pub fn explore<P: Progress>(
     disk1: &CleanImage,
     base: &[Event],
     most: u32,
-    within: u32,
+    stretch: Stretch,
     table: &mut Vec<Row>,
     progress: &mut P,
 ) -> Result<bool, BootFault>
@@ -48,17 +48,17 @@ pub fn explore<P: Progress>(
     requires few { length images.now ≤ 8 }
     requires base { length base.now ≤ 999999994 }
     requires most { most ≤ 3 }
-    requires within { within ≤ 1000000 }
+    requires within { stretch.within ≤ 1000000 }
     requires empty { table.old.items ≡ [] }
-    ensures explores { MatchResult result (λ _. Explores (disks_of disk0.now disk1.now) (map loaded_of images.now) base.now (placements most within) table.new.items) (λ _. ExploresSome (disks_of disk0.now disk1.now) (map loaded_of images.now) base.now (placements most within) table.new.items) }
-    ensures forced { IfOk result (λ are_forced. AreForced are_forced (disks_of disk0.now disk1.now) (map loaded_of images.now) base.now (placements most within)) }
-    ensures first { All (λ row. IsPlacement most within row.first) table.new.items }
+    ensures explores { MatchResult result (λ _. Explores (disks_of disk0.now disk1.now) (map loaded_of images.now) base.now (placements most stretch) table.new.items) (λ _. ExploresSome (disks_of disk0.now disk1.now) (map loaded_of images.now) base.now (placements most stretch) table.new.items) }
+    ensures forced { IfOk result (λ are_forced. AreForced are_forced (disks_of disk0.now disk1.now) (map loaded_of images.now) base.now (placements most stretch)) }
+    ensures first { All (λ row. IsPlacement most stretch row.first) table.new.items }
     ensures cause { IfErr result (IsRefused (disks_of disk0.now disk1.now) (map loaded_of images.now)) }
 {
-    let cut = cut_of(base, within);
+    let cut = cut_of(base, stretch);
     let (front, back) = base.split_at(cut);
     let mut known = Vec::new(alloc);
-    let mut left = Placements::new(alloc, most, within);
+    let mut left = Placements::new(alloc, most, stretch);
     let mut are_forced = true;
     while let Some(places) = left.first() {
         let ran = match run_placement(
@@ -82,12 +82,12 @@ pub fn explore<P: Progress>(
 }
 
 // Where the base is cut into the front, in which all preemptions come, and the back. It isn't cut if the back isn't worth a comparison.
-fn cut_of(base: &[Event], within: u32) -> usize
+fn cut_of(base: &[Event], stretch: Stretch) -> usize
     requires few { length base.now ≤ 999999994 }
     ensures inside { result ≤ length base.now }
-    ensures parts { (most : ℕ) (places : List ℕ) → IsPlacement most within places → preempted_at places base.now ≡ preempted_at places (take result base.now) ++ drop result base.now }
+    ensures parts { (most : ℕ) (places : List ℕ) → IsPlacement most stretch places → preempted_at places base.now ≡ preempted_at places (take result base.now) ++ drop result base.now }
 {
-    let cut = preemptions::front(base, within) + SETTLING;
+    let cut = preemptions::front(base, stretch) + SETTLING;
     if cut + LONG > base.len() {
         return base.len();
     }

@@ -11,4 +11,4 @@ pub record Passed (base : List Event) (i steps within : ℕ) : Type 0 where
   pub few : steps ≤ within
 
 abbrev pub invariant-loop-i : goal.invariant-loop-i
-invariant-loop-i l = Passed l.base l.i l.steps l.fn.within
+invariant-loop-i l = Passed l.base l.i l.steps l.fn.stretch.within

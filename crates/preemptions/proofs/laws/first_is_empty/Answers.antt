@@ -3,6 +3,6 @@ use Rattle.preemptions.proofs.Order.{starts}
 use Rattle.preemptions.proofs.laws.first_is_empty.Goals as goal
 
 pub returns : goal.returns
-returns c = λ most within.
-    let is = starts most within [] refl in
+returns c = λ most stretch.
+    let is = starts most stretch [] refl in
     sym is ∙ ap (λ (xs : List (List ℕ)). [] ∷ drop 1 xs) is

@@ -5,4 +5,4 @@ use Rattle.memory_strays.proofs.strays.Strays.new.Goals as goal
 
 pub returns : goal.returns
 unfolding nothing_noted
-returns c = record { none = ap (λ (l : List Bool). record { executed = l; below = None; stack = None; code = None }) (c.in_ok-executed.ensures.items_if_clones_equal (λ y same. same)) }
+returns c = record { none = ap (λ (l : List Bool). record { executed = l; below = None; stack = None; code = None; free = None }) (c.in_ok-executed.ensures.items_if_clones_equal (λ y same. same)) }
