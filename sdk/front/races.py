@@ -22,6 +22,11 @@ SLACK = 10  # rounds after those in which the program ended, for the runs that t
 OUTCOME = re.compile(r"outcome (\d+): (\d+) schedules?, first with preemptions after (none|[\d ]+)(?:, at events? [\d ]+)?")
 
 
+def start(words):
+    """After how many steps preemptions are placed."""
+    return getattr(words, "from") or 0
+
+
 def base(words, programs, folder):
     """The inputs of the base, the lines of its schedule, and within how many steps preemptions are placed."""
     inputs = inputs_of(words, programs, folder)
@@ -38,7 +43,7 @@ def base(words, programs, folder):
     steps = sum(count for kind, count in runs_of(lines) if kind == "step")
     if words.within and words.within > steps:
         raise Refusal(f"--within: the schedule has {steps} steps, and preemptions can't be placed within {words.within}")
-    return inputs, lines, words.within or max(1, min(WITHIN[words.preemptions], steps))
+    return inputs, lines, words.within or max(1, min(start(words) + WITHIN[words.preemptions], steps))
 
 
 def outcomes(printed):
@@ -93,12 +98,12 @@ def races(words, programs, folder):
     stem = os.path.join(words.into, os.path.splitext(os.path.basename(words.program[0]))[0])
     writable(f"{stem}.outcome1.schedule", "--into")
     inputs, lines, within = base(words, programs, folder)
-    line = ["races", "--preemptions", str(words.preemptions), "--within", str(within), *inputs.words()]
+    line = ["races", "--preemptions", str(words.preemptions), "--within", str(within), "--from", str(start(words)), *inputs.words()]
     ran = subprocess.run([program(), *line], stdout=subprocess.PIPE, stderr=None if sys.stderr.isatty() else subprocess.PIPE, check=False)
     if ran.returncode:
         refuse((ran.stderr or b"").decode("utf-8", "replace"), ran.returncode, inputs)
     rows = outcomes(ran.stdout.decode("utf-8", "replace"))
     tell(inputs, lines, rows, os.path.normpath(stem), Places(programs))
-    placed = f"at most {words.preemptions} preemption{'s' * (words.preemptions != 1)} within {within} steps"
+    placed = f"at most {words.preemptions} preemption{'s' * (words.preemptions != 1)} within {within} steps" + (f", after {start(words)}" if start(words) else "")
     say(f"{len(rows)} outcome{'s' * (len(rows) != 1)}, {placed}.")
     return 0

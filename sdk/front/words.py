@@ -115,6 +115,7 @@ def add_of_run(commands):
     parsers["races"].add_argument("--preemptions", type=number_between(0, 3), default=1, metavar="P", help="at most P preemptions in a run (1)")
     parsers["races"].add_argument("--within", type=number_between(1, 1000000), metavar="N",
                                   help="within the first N steps (1000 for one preemption, 60 for two, 20 for three)")
+    parsers["races"].add_argument("--from", type=number_between(0, 1000000), metavar="M", help="after the first M steps (0)")
     parsers["races"].add_argument("--into", default=".", metavar="FOLDER", help="where the schedules are kept (here)")
     parsers["picture"].add_argument("--out", metavar="FILE", help="the file that is written (PROGRAM.svg)")
     parsers["picture"].add_argument("--from", type=number_between(1, 10**9), metavar="N", help="leave out the events before event N")

@@ -1,2 +1,4 @@
+pub mod Digits
 pub mod Known
+pub mod Named
 pub mod Noted

@@ -7,6 +7,7 @@
 //! | [`Shown`], [`Doing`] | what tables show: of each process its state and what it waits for, and the ticks |
 //! | [`made_as`] | the priority and the name of a process in tables |
 //! | [`number_of`] | the number that a word is |
+//! | [`push_named`] | `named`: appends a line of tables, and the name of a process as a text after it (`specs/Names.antt`) |
 //! | [`Text`] | a text while it is written, by those who show what was read; it remembers if memory ran out |
 //!
 //! Of semaphores a reader tells what the lines say: `knows` of [`Reader::new`] and [`Reader::note`], and `usage` of [`Reader::usage`], by the
@@ -16,6 +17,7 @@
 #![tactic(auto)]
 
 mod doings;
+mod names;
 mod notes;
 mod reader;
 mod tables;
@@ -23,6 +25,7 @@ mod text;
 mod usages;
 
 pub use doings::{ABSENT, Awaited, Doing};
+pub use names::push_named;
 pub use reader::Reader;
 pub use tables::{Made, PROCESSES, Shown, made_as, number_of};
 pub use text::Text;

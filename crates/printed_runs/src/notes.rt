@@ -57,7 +57,7 @@ pub(crate) fn note_of(line: &[u8]) -> Note
 }
 
 // The first word of a line, and what comes after it; no byte of both if there is none.
-fn cut_word(line: &[u8]) -> (&[u8], &[u8])
+pub(crate) fn cut_word(line: &[u8]) -> (&[u8], &[u8])
     ensures word { result.0.now ≡ specs.first_word (tokens_of line.now) }
     ensures rest { tokens_of result.1.now ≡ drop 1 (tokens_of line.now) }
 {

@@ -2,8 +2,10 @@
 use Rattle.std.proofs.Common.{◌≡◌, ◌∙◌, ℕ, ◌==◌, ◌≤◌, true, false, List, [], ◌∷◌, ◌++◌, codes, length, take, refl, sym, ap, append_assoc, arith}
 use Rattle.std.specs.List.{flat_map}
 use Rattle.std.proofs.lemmas.List.{append-nil, take_all}
-use Rattle.races_command.specs.Printed.{bounds_text}
+use Rattle.preemptions.specs.declared.stretches.Stretch.{Stretch}
+use Rattle.races_command.specs.Printed.{bounds_text, stretch_text}
 use Rattle.races_command.specs.Shown.{indented, listed, number_of, places_text, place_text, shown_console, shown_line}
+use Rattle.printed_runs.specs.Names.{named_line}
 use Rattle.text_lines.specs.Lines.{lines_of, tokens_of}
 
 -- ---- places
@@ -62,9 +64,9 @@ listed_more rest line next cut = ap (flat_map indented) cut
 
 -- one more line is listed
 pub listed_step : (t0 t1 t2 t3 all line next rest : List ℕ) → t0 ++ listed rest ≡ all → lines_of rest ≡ line ∷ lines_of next
-    → t1 ≡ t0 ++ codes "  " → t2 ≡ t1 ++ line → t3 ≡ t2 ++ codes "\n" → t3 ++ listed next ≡ all
+    → t1 ≡ t0 ++ codes "  " → t2 ≡ t1 ++ named_line line → t3 ≡ t2 ++ codes "\n" → t3 ++ listed next ≡ all
 listed_step t0 t1 t2 t3 all line next rest is cut one two three =
-    let whole : t3 ≡ t0 ++ indented line = three ∙ ap (λ (t : List ℕ). t ++ codes "\n") (two ∙ ap (λ (t : List ℕ). t ++ line) one) ∙ simp append_assoc in
+    let whole : t3 ≡ t0 ++ indented line = three ∙ ap (λ (t : List ℕ). t ++ codes "\n") (two ∙ ap (λ (t : List ℕ). t ++ named_line line) one) ∙ simp append_assoc in
     ap (λ (t : List ℕ). t ++ listed next) whole
     ∙ append_assoc t0 (indented line) (listed next)
     ∙ ap (λ (t : List ℕ). t0 ++ t) (sym (listed_more rest line next cut))
@@ -75,10 +77,10 @@ listed_end t all rest is none = sym (ap (λ (s : List ℕ). t ++ s) (listed_none
 
 -- ---- the last line
 
-pub bounds_are : (t0 t1 t2 t3 t4 : List ℕ) (most within m w : ℕ) → t1 ≡ t0 ++ codes ", with at most " → t2 ≡ t1 ++ number_of m (codes "preemption")
-    → t3 ≡ t2 ++ codes " in the first " → t4 ≡ t3 ++ number_of w (codes "step") → m ≡ most → w ≡ within → t4 ≡ t0 ++ bounds_text most within
+pub bounds_are : (t0 t1 t2 t3 : List ℕ) (most m : ℕ) (s : Stretch) → t1 ≡ t0 ++ codes ", with at most " → t2 ≡ t1 ++ number_of m (codes "preemption")
+    → t3 ≡ t2 ++ stretch_text s → m ≡ most → t3 ≡ t0 ++ bounds_text most s
 unfolding bounds_text
-bounds_are t0 t1 t2 t3 t4 most within m w one two three four first second =
-    let whole : t4 ≡ t0 ++ bounds_text m w = four ∙ ap (λ (t : List ℕ). t ++ number_of w (codes "step"))
-    (three ∙ ap (λ (t : List ℕ). t ++ codes " in the first ") (two ∙ ap (λ (t : List ℕ). t ++ number_of m (codes "preemption")) one)) ∙ simp append_assoc in
-    whole ∙ ap (λ (n : ℕ). t0 ++ bounds_text n w) first ∙ ap (λ (n : ℕ). t0 ++ bounds_text most n) second
+bounds_are t0 t1 t2 t3 most m s one two three same =
+    let whole : t3 ≡ t0 ++ bounds_text m s = three ∙ ap (λ (t : List ℕ). t ++ stretch_text s)
+    (two ∙ ap (λ (t : List ℕ). t ++ number_of m (codes "preemption")) one) ∙ simp append_assoc in
+    whole ∙ ap (λ (n : ℕ). t0 ++ bounds_text n s) same

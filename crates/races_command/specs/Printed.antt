@@ -1,7 +1,8 @@
 -- The table as it is printed.
-use Rattle.std.specs.Prelude.{◌+◌, ℕ, Bool, if◌then◌else◌, List, [], ◌∷◌, ◌++◌, length, map, codes}
+use Rattle.std.specs.Prelude.{◌+◌, ◌==◌, ℕ, Bool, if◌then◌else◌, List, [], ◌∷◌, ◌++◌, length, map, codes}
 use Rattle.std.specs.List.{sum}
 use Rattle.std.specs.Fmt.{decimal}
+use Rattle.preemptions.specs.declared.stretches.Stretch.{Stretch}
 use Rattle.race_tables.specs.Outcomes.{Outcome}
 use Rattle.race_tables.specs.Rows.{Row}
 use Rattle.races_command.specs.Shown.{listed, moments_text, number_of, places_text, shown_console}
@@ -38,16 +39,24 @@ abbrev pub began : Bool → Bool → List ℕ
 began are_all are_forced =
     if are_all then (if are_forced then codes "every run of each of " else codes "a run of each of ") else codes "out of memory after runs of "
 
+-- after how many steps the places begin
+abbrev pub after_text : ℕ → List ℕ
+after_text after = codes " after the first " ++ decimal after ++ codes " of "
+
+-- where the places of a stretch are
+abbrev pub stretch_text : Stretch → List ℕ
+stretch_text s = (if s.after == 0 then codes " in the first " else after_text s.after) ++ number_of s.within (codes "step")
+
 -- which placements are gone through
-unfoldable pub bounds_text : ℕ → ℕ → List ℕ
-bounds_text most within = codes ", with at most " ++ number_of most (codes "preemption") ++ codes " in the first " ++ number_of within (codes "step")
+unfoldable pub bounds_text : ℕ → Stretch → List ℕ
+bounds_text most stretch = codes ", with at most " ++ number_of most (codes "preemption") ++ stretch_text stretch
 
 -- the last line: how many schedules were run, which, and how many outcomes there are
-unfoldable pub last_line : Bool → Bool → ℕ → ℕ → ℕ → ℕ → List ℕ
-last_line are_all are_forced runs most within outcomes =
-    began are_all are_forced ++ number_of runs (codes "schedule") ++ bounds_text most within ++ codes ": " ++ number_of outcomes (codes "outcome") ++ codes "\n"
+unfoldable pub last_line : Bool → Bool → ℕ → ℕ → Stretch → ℕ → List ℕ
+last_line are_all are_forced runs most stretch outcomes =
+    began are_all are_forced ++ number_of runs (codes "schedule") ++ bounds_text most stretch ++ codes ": " ++ number_of outcomes (codes "outcome") ++ codes "\n"
 
--- the table of the placements with at most so many quantum ends within so many steps of a base, or of the first of them
-unfoldable pub table_text : Bool → Bool → ℕ → ℕ → List Event → List Row → List ℕ
-table_text are_all are_forced most within base table =
-    rows_text base 1 table ++ last_line are_all are_forced (sum (map (λ row. row.count) table)) most within (length table)
+-- the table of the placements with at most so many quantum ends in a stretch of the steps of a base, or of the first of them
+unfoldable pub table_text : Bool → Bool → ℕ → Stretch → List Event → List Row → List ℕ
+table_text are_all are_forced most stretch base table =
+    rows_text base 1 table ++ last_line are_all are_forced (sum (map (λ row. row.count) table)) most stretch (length table)

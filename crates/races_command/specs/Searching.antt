@@ -7,6 +7,7 @@ use Rattle.host_port.specs.Outside.{Outside, appended, counted, emptied_channel,
 use Rattle.host_port.specs.declared.host.Channel.TheVariants.{Out, Image}
 use Rattle.preemptions.specs.Placements.{placements}
 use Rattle.preemptions.specs.Preempted.{preempted_at}
+use Rattle.preemptions.specs.declared.stretches.Stretch.{Stretch}
 use Rattle.race_runs.specs.Explored.{Explores, ExploresSome}
 use Rattle.race_runs.specs.Forced.{AreForced}
 use Rattle.race_tables.specs.Rows.{Row}
@@ -20,14 +21,14 @@ use Rattle.races_command.specs.declared.faults.Fault.{Fault}
 use Rattle.races_command.specs.declared.faults.Fault.TheVariants as fault
 use denote.Ref.{Bor}
 
--- What is searched: the images that boot on the disks, the base's events, at most how many quantum ends are put in and within how many steps,
--- the file for the schedule of a row, if one is named, and the number of that row.
+-- What is searched: the images that boot on the disks, the base's events, at most how many quantum ends are put in, and where, the
+-- file for the schedule of a row, if one is named, and the number of that row.
 pub record Searched : Type 0 where
   pub disks : Disks
   pub images : List Loaded
   pub base : List Event
   pub most : ℕ
-  pub within : ℕ
+  pub stretch : Stretch
   pub found : Option Text
   pub outcome : ℕ
 
@@ -49,15 +50,15 @@ with_file h (Some file) = appended (with_calls (made_empty h Image) (naming Imag
 -- All placements were gone through, and their table was sent: it says *every run* only if nothing was chosen.
 pub record Finds (s : Searched) (old new : Outside) : Type 0 where
   pub table : List Row
-  pub explores : Explores s.disks s.images s.base (placements s.most s.within) table
+  pub explores : Explores s.disks s.images s.base (placements s.most s.stretch) table
   pub are_forced : Bool
-  pub forced : AreForced are_forced s.disks s.images s.base (placements s.most s.within)
-  pub sent : new ≡ counted (with_file (appended old Out (table_text true are_forced s.most s.within s.base table)) (found_file s.found s.outcome s.base table)) new.faults
+  pub forced : AreForced are_forced s.disks s.images s.base (placements s.most s.stretch)
+  pub sent : new ≡ counted (with_file (appended old Out (table_text true are_forced s.most s.stretch s.base table)) (found_file s.found s.outcome s.base table)) new.faults
 
 -- The table is that of all placements, or of the first of them.
 abbrev pub IsTable : Bool → Searched → List Row → Type 0
-IsTable true s table = Explores s.disks s.images s.base (placements s.most s.within) table
-IsTable false s table = ExploresSome s.disks s.images s.base (placements s.most s.within) table
+IsTable true s table = Explores s.disks s.images s.base (placements s.most s.stretch) table
+IsTable false s table = ExploresSome s.disks s.images s.base (placements s.most s.stretch) table
 
 -- A file was named for a schedule and a prefix of its text written into it, or neither was done.
 pub record WritesPart (file : Text × List ℕ) (old new : Outside) : Type 0 where
@@ -101,8 +102,8 @@ pub record BreaksOff (s : Searched) (old new : Outside) : Type 0 where
   pub table : List Row
   pub explores : IsTable are_all s table
   pub are_forced : Bool
-  pub forced : AreForced are_forced s.disks s.images s.base (placements s.most s.within)
-  pub sends : SendsPart (table_text are_all are_forced s.most s.within s.base table) (file_after are_all s table) old new
+  pub forced : AreForced are_forced s.disks s.images s.base (placements s.most s.stretch)
+  pub sends : SendsPart (table_text are_all are_forced s.most s.stretch s.base table) (file_after are_all s table) old new
 
 -- The search ended so. If the images don't boot, nothing was done; the host failed only if the count of faults rose, and a file that can't be written
 -- is the one for the schedule of a row.

@@ -4,6 +4,7 @@ use Rattle.std.specs.List.{flat_map}
 use Rattle.std.specs.Fmt.{decimal}
 use Rattle.std.specs.Option.{option_map_or}
 use Rattle.preemptions.specs.Moments.{moments}
+use Rattle.printed_runs.specs.Names.{named_line}
 use Rattle.schedule_file.specs.Numbers.{byte_in}
 use Rattle.text_lines.specs.Lines.{lines_of, tokens_of}
 use Rattle.xinu_base.specs.Hexadecimal.{hex_byte}
@@ -50,9 +51,9 @@ shown_line tokens = []
 unfoldable pub shown_console : List ℕ → List ℕ
 shown_console lines = flat_map (λ line. shown_line (tokens_of line)) (lines_of lines)
 
--- a line behind two blanks
+-- a line behind two blanks, with the name of a process as a text after it
 abbrev pub indented : List ℕ → List ℕ
-indented line = codes "  " ++ line ++ codes "\n"
+indented line = codes "  " ++ named_line line ++ codes "\n"
 
 -- the lines of a text, none left out
 unfoldable pub listed : List ℕ → List ℕ

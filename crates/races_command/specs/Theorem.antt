@@ -30,14 +30,14 @@ use Rattle.races_command.specs.declared.faults.Fault.TheVariants as fault
 pub record Fits (a : Asked) (schedule : List Event) : Type 0 where
   pub few : length schedule ≤ 1000000
   pub most : a.most ≤ 3
-  pub within : a.within ≤ count_by is_step schedule
+  pub within : a.stretch.within ≤ count_by is_step schedule
 
 -- The command went through the placements, or was refused since the numbers don't fit: the schedule is judged first, then the number of quantum ends,
 -- and then the steps.
 abbrev pub Goes : Asked → List Event → Searched → Option Fault → Outside → Outside → Type 0
 Goes a schedule s (Some fault.TooLong) old new = (1000000 < length schedule) × (new ≡ old)
 Goes a schedule s (Some fault.TooMany) old new = (length schedule ≤ 1000000) × (3 < a.most) × (new ≡ old)
-Goes a schedule s (Some fault.TooFar) old new = (length schedule ≤ 1000000) × (a.most ≤ 3) × (count_by is_step schedule < a.within) × (new ≡ old)
+Goes a schedule s (Some fault.TooFar) old new = (length schedule ≤ 1000000) × (a.most ≤ 3) × (count_by is_step schedule < a.stretch.within) × (new ≡ old)
 Goes a schedule s (Some (fault.Refused (cause.Refused refusal.NoMemory))) old new = Searches s (Some (fault.Refused (cause.Refused refusal.NoMemory))) old new
 Goes a schedule s ended old new = Fits a schedule × Searches s ended old new
 
@@ -48,7 +48,7 @@ search_of a x images = record {
   images = images;
   base = x.schedule;
   most = a.most;
-  within = a.within;
+  stretch = a.stretch;
   found = a.found;
   outcome = a.outcome;
 }
@@ -93,7 +93,7 @@ refusal_of fault.TooFar = refusal.Usage
 
 -- the words of the command
 abbrev pub usage : List ℕ
-usage = codes "--preemptions P --within N [--found FILE [--outcome K]] --schedule FILE [--disk0 FILE] [--disk1 FILE] IMAGE .."
+usage = codes "--preemptions P --within N [--from M] [--found FILE [--outcome K]] --schedule FILE [--disk0 FILE] [--disk1 FILE] IMAGE .."
 
 -- the lines after that text: what the cause means, or which number doesn't fit
 abbrev pub line_of : Fault → List ℕ

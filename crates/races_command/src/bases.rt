@@ -6,6 +6,7 @@ ghost use Rattle.preemptions.specs.Preempted.{is_step};
 ghost use Rattle.races_command.specs.Judged as spec;
 
 use crate::faults::{Fault, NO_MEMORY};
+use preemptions::Stretch;
 use schedule_file::Schedule;
 use std::alloc::Global;
 use xinu_base::Event;
@@ -13,19 +14,19 @@ use xinu_base::Event;
 /// The most events of a base.
 const MOST_EVENTS: usize = 1_000_000;
 
-/// At most how many quantum ends are put in, and within how many steps.
+/// At most how many quantum ends are put in, and where.
 #[derive(Clone, Copy)]
 pub struct Limits {
     /// At most how many quantum ends are put in.
     pub most: u32,
-    /// Within how many steps.
-    pub within: u32,
+    /// Where they are.
+    pub stretch: Stretch,
 }
 
 impl Limits {
     // How many placements there are, for the progress.
     pub(crate) fn placements(&self) -> u64 {
-        let places = self.within as u64;
+        let places = self.stretch.within.saturating_sub(self.stretch.after) as u64;
         let pairs = places.saturating_mul(places.saturating_sub(1)) / 2;
         let triples = pairs.saturating_mul(places.saturating_sub(2)) / 3;
         let of_size = [1, places, pairs, triples];
@@ -65,9 +66,9 @@ pub fn events_of(alloc: Global, schedule: &mut Schedule) -> Result<Vec<Event>, F
 ///
 /// # Errors
 /// `TooMany` if and only if there are more than three quantum ends; else `TooFar` if and only if the base has fewer steps.
-pub fn judge(most: u64, within: u64, base: &[Event]) -> Result<Limits, Fault<'static>>
+pub fn judge(most: u64, from: u64, within: u64, base: &[Event]) -> Result<Limits, Fault<'static>>
     requires few { length base.now ≤ 1000000 }
-    ensures judged { spec.IsJudged most within (count_by is_step base.now) result }
+    ensures judged { spec.IsJudged most from within (count_by is_step base.now) result }
 {
     if most > 3 {
         return Err(Fault::TooMany);
@@ -77,7 +78,10 @@ pub fn judge(most: u64, within: u64, base: &[Event]) -> Result<Limits, Fault<'st
     }
     Ok(Limits {
         most: most as u32,
-        within: within as u32,
+        stretch: Stretch {
+            after: from.min(within) as u32,
+            within: within as u32,
+        },
     })
 }
 

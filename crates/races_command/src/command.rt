@@ -14,7 +14,7 @@ ghost use Rattle.races_command.specs.Words.{asked_in, read};
 use crate::bases::{Limits, events_of, judge};
 use crate::faults::{Fault, NO_MEMORY, or_unwritten, tell};
 use crate::reports::{send_table, write_found};
-use crate::words::{most_in, outcome_in, within_in};
+use crate::words::{from_in, most_in, outcome_in, within_in};
 use command_words::{Taken, Tool};
 use host_port::Host;
 use image_loader::Image;
@@ -103,7 +103,12 @@ fn go_through<'a, H: Host, P: Progress>(
         Ok(base) => base,
         Err(fault) => return Err(fault),
     };
-    let limits = match judge(most_in(words), within_in(words), base.as_slice()) {
+    let limits = match judge(
+        most_in(words),
+        from_in(words),
+        within_in(words),
+        base.as_slice(),
+    ) {
         Ok(limits) => limits,
         Err(fault) => return Err(fault),
     };
@@ -138,14 +143,14 @@ fn search<'a, H: Host, P: Progress>(
     requires few { length images.now ≤ 8 }
     requires base { length base.now ≤ 1000000 }
     requires most { limits.most ≤ 3 }
-    requires within { limits.within ≤ 1000000 }
-    ensures searches { search.Searches (record { disks = disks_of disk0.now disk1.now; images = map loaded_of images.now; base = base.now; most = limits.most; within = limits.within; found = option_map (λ s. s.now) found.entry; outcome = outcome }) (search.ended_by result) (H.view host.old) (H.view host.new) }
+    requires within { limits.stretch.within ≤ 1000000 }
+    ensures searches { search.Searches (record { disks = disks_of disk0.now disk1.now; images = map loaded_of images.now; base = base.now; most = limits.most; stretch = limits.stretch; found = option_map (λ s. s.now) found.entry; outcome = outcome }) (search.ended_by result) (H.view host.old) (H.view host.new) }
 {
     let mut table = Vec::new(alloc);
-    let Limits { most, within } = limits;
+    let Limits { most, stretch } = limits;
     progress.begin(limits.placements());
     match explore(
-        alloc, images, disk0, disk1, base, most, within, &mut table, progress,
+        alloc, images, disk0, disk1, base, most, stretch, &mut table, progress,
     ) {
         Ok(are_forced) => {
             progress.end();
@@ -153,7 +158,7 @@ fn search<'a, H: Host, P: Progress>(
                 alloc,
                 table.as_slice(),
                 most,
-                within,
+                stretch,
                 base,
                 true,
                 are_forced,
@@ -166,7 +171,7 @@ fn search<'a, H: Host, P: Progress>(
                 alloc,
                 table.as_slice(),
                 most,
-                within,
+                stretch,
                 base,
                 found,
                 outcome,
@@ -180,7 +185,7 @@ fn search<'a, H: Host, P: Progress>(
                 alloc,
                 table.as_slice(),
                 most,
-                within,
+                stretch,
                 base,
                 false,
                 false,

@@ -28,7 +28,7 @@ pub enum Fault<'a> {
 
 /// The words of the command.
 const USAGE: &str =
-    "--preemptions P --within N [--found FILE [--outcome K]] --schedule FILE [--disk0 FILE] [--disk1 FILE] IMAGE ..";
+    "--preemptions P --within N [--from M] [--found FILE [--outcome K]] --schedule FILE [--disk0 FILE] [--disk1 FILE] IMAGE ..";
 
 /// Sends the text of a refusal on Fault and a line after it, which says what the refusal means, or which number doesn't fit, and answers the exit
 /// status.

@@ -1,7 +1,7 @@
 //! The command `races`: which outcomes a program has on all placements of quantum ends in a schedule.
 //!
 //! The arguments are those of `run` without what concerns its output, with `--preemptions P` before them, at most how many quantum ends are
-//! put in, `--within N`, the steps of the schedule within which they are, `--found FILE`, the file for a schedule with
+//! put in, `--within N`, the steps of the schedule within which they are, `--from M`, the steps after which they begin, `--found FILE`, the file for a schedule with
 //! the second outcome, and `--outcome K`, that with another one.
 //!
 //! | Call | Promise |

@@ -14,7 +14,7 @@ ghost use Rattle.races_command.specs.Searching as spec;
 use crate::faults::{Fault, NO_MEMORY, host_failed};
 use crate::showing::table_text;
 use host_port::{Channel, Host};
-use preemptions::preempt;
+use preemptions::{Stretch, preempt};
 use race_tables::Row;
 use schedule_text::schedule_text;
 use std::alloc::Global;
@@ -28,7 +28,7 @@ pub(crate) fn send_table<H: Host>(
     alloc: Global,
     table: &[Row],
     most: u32,
-    within: u32,
+    stretch: Stretch,
     base: &[Event],
     are_all: bool,
     are_forced: bool,
@@ -37,11 +37,11 @@ pub(crate) fn send_table<H: Host>(
     requires fits { sum (map (λ row. row.count) table.now) < 18446744073709551616 }
     requires base { length base.now ≤ 1000000 }
     requires most { most ≤ 3 }
-    requires placements { All (λ row. IsPlacement most within row.first) table.now }
-    ensures sends { MatchResult result (λ _. H.view host.new ≡ counted (appended (H.view host.old) channel.Out (printed.table_text are_all are_forced most within base.now table.now)) (H.view host.new).faults) (λ fault. spec.StopsIn (printed.table_text are_all are_forced most within base.now table.now) None fault (H.view host.old) (H.view host.new)) }
+    requires placements { All (λ row. IsPlacement most stretch row.first) table.now }
+    ensures sends { MatchResult result (λ _. H.view host.new ≡ counted (appended (H.view host.old) channel.Out (printed.table_text are_all are_forced most stretch base.now table.now)) (H.view host.new).faults) (λ fault. spec.StopsIn (printed.table_text are_all are_forced most stretch base.now table.now) None fault (H.view host.old) (H.view host.new)) }
     ensures later { (H.view host.old).faults ≤ (H.view host.new).faults }
 {
-    let Ok(text) = table_text(alloc, table, most, within, base, are_all, are_forced) else {
+    let Ok(text) = table_text(alloc, table, most, stretch, base, are_all, are_forced) else {
         return Err(NO_MEMORY);
     };
     match host.emit(Channel::Out, text.as_slice()) {
@@ -58,7 +58,7 @@ pub(crate) fn write_found<H: Host>(
     alloc: Global,
     table: &[Row],
     most: u32,
-    within: u32,
+    stretch: Stretch,
     base: &[Event],
     found: Option<&str>,
     outcome: u64,
@@ -66,7 +66,7 @@ pub(crate) fn write_found<H: Host>(
 ) -> Result<(), Fault<'static>>
     requires base { length base.now ≤ 1000000 }
     requires most { most ≤ 3 }
-    requires placements { All (λ row. IsPlacement most within row.first) table.now }
+    requires placements { All (λ row. IsPlacement most stretch row.first) table.now }
     ensures writes { MatchResult result (λ _. H.view host.new ≡ counted (spec.with_file (H.view host.old) (spec.found_file (option_map (λ s. s.now) found.entry) outcome base.now table.now)) (H.view host.new).faults) (λ fault. spec.StopsIn [] (spec.found_file (option_map (λ s. s.now) found.entry) outcome base.now table.now) fault (H.view host.old) (H.view host.new)) }
 {
     let Some(name) = found else {

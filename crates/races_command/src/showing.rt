@@ -7,11 +7,12 @@ ghost use Rattle.races_command.specs.Printed as spec;
 use crate::console::push_console;
 use crate::stuck::is_stuck;
 use crate::texts::{push_listed, push_moments, push_number, push_number_of, push_places};
+use preemptions::Stretch;
 use race_tables::{Outcome, Row};
 use std::alloc::{AllocError, Global};
 use xinu_base::Event;
 
-/// The table of the placements with at most `most` quantum ends within `within` steps of the base, or of the first of them. It says *every run* if
+/// The table of the placements with at most `most` quantum ends in a stretch of the steps of the base, or of the first of them. It says *every run* if
 /// nothing was chosen in them.
 ///
 /// # Errors
@@ -21,7 +22,7 @@ pub(crate) fn table_text(
     alloc: Global,
     table: &[Row],
     most: u32,
-    within: u32,
+    stretch: Stretch,
     base: &[Event],
     are_all: bool,
     are_forced: bool,
@@ -29,7 +30,7 @@ pub(crate) fn table_text(
     requires fits { sum (map (λ row. row.count) table.now) < 18446744073709551616 }
     requires base { length base.now ≤ 1000000 }
     requires few { All (λ row. length row.first ≤ 3) table.now }
-    ensures text { IfOk result (λ text. text.items ≡ spec.table_text are_all are_forced most within base.now table.now) }
+    ensures text { IfOk result (λ text. text.items ≡ spec.table_text are_all are_forced most stretch base.now table.now) }
 {
     let mut text = Vec::new(alloc);
     push_rows(&mut text, base, table)?;
@@ -38,7 +39,7 @@ pub(crate) fn table_text(
         &mut text,
         runs,
         most,
-        within,
+        stretch,
         table.len() as u64,
         are_all,
         are_forced,
@@ -126,16 +127,16 @@ fn push_last(
     text: &mut Vec<u8>,
     runs: u64,
     most: u32,
-    within: u32,
+    stretch: Stretch,
     outcomes: u64,
     are_all: bool,
     are_forced: bool,
 ) -> Result<(), AllocError>
-    ensures last { OnOk result (text.new.items ≡ text.old.items ++ spec.last_line are_all are_forced runs most within outcomes) }
+    ensures last { OnOk result (text.new.items ≡ text.old.items ++ spec.last_line are_all are_forced runs most stretch outcomes) }
 {
     push_began(text, are_all, are_forced)?;
     push_number_of(text, runs, "schedule")?;
-    push_bounds(text, most, within)?;
+    push_bounds(text, most, stretch)?;
     text.extend_from_slice(b": ")?;
     push_number_of(text, outcomes, "outcome")?;
     text.extend_from_slice(b"\n")?;
@@ -143,14 +144,34 @@ fn push_last(
 }
 
 // Appends which placements are gone through.
-fn push_bounds(text: &mut Vec<u8>, most: u32, within: u32) -> Result<(), AllocError>
-    ensures bounds { OnOk result (text.new.items ≡ text.old.items ++ spec.bounds_text most within) }
+fn push_bounds(text: &mut Vec<u8>, most: u32, stretch: Stretch) -> Result<(), AllocError>
+    ensures bounds { OnOk result (text.new.items ≡ text.old.items ++ spec.bounds_text most stretch) }
 {
     text.extend_from_slice(b", with at most ")?;
     push_number_of(text, most as u64, "preemption")?;
-    text.extend_from_slice(b" in the first ")?;
-    push_number_of(text, within as u64, "step")?;
+    push_stretch(text, stretch)?;
     Ok(())
+}
+
+// Appends where the places of a stretch are.
+fn push_stretch(text: &mut Vec<u8>, stretch: Stretch) -> Result<(), AllocError>
+    ensures stretch { OnOk result (text.new.items ≡ text.old.items ++ spec.stretch_text stretch) }
+{
+    if stretch.after == 0 {
+        text.extend_from_slice(b" in the first ")?;
+    } else {
+        push_after(text, stretch.after)?;
+    }
+    push_number_of(text, stretch.within as u64, "step")
+}
+
+// Appends after how many steps the places begin.
+fn push_after(text: &mut Vec<u8>, after: u32) -> Result<(), AllocError>
+    ensures after { OnOk result (text.new.items ≡ text.old.items ++ spec.after_text after) }
+{
+    text.extend_from_slice(b" after the first ")?;
+    push_number(text, after as u64)?;
+    text.extend_from_slice(b" of ")
 }
 
 // Appends how the last line begins.

@@ -8,6 +8,7 @@ ghost use Rattle.races_command.specs.Shown as spec;
 
 use itoa::Buffer;
 use preemptions::events_before;
+use printed_runs::push_named;
 use std::alloc::AllocError;
 use text_lines::first_line;
 use xinu_base::Event;
@@ -90,7 +91,7 @@ fn push_each(text: &mut Vec<u8>, base: &[Event], places: &[u32]) -> Result<(), A
     Ok(())
 }
 
-/// Appends the lines of another text, each behind two blanks.
+/// Appends the lines of another text, each behind two blanks, with the name of a process as a text after it.
 pub(crate) fn push_listed(text: &mut Vec<u8>, lines: &[u8]) -> Result<(), AllocError>
     ensures listed { OnOk result (text.new.items ≡ text.old.items ++ spec.listed lines.now) }
 {
@@ -98,7 +99,7 @@ pub(crate) fn push_listed(text: &mut Vec<u8>, lines: &[u8]) -> Result<(), AllocE
     while !rest.is_empty() {
         let (line, next) = first_line(rest);
         text.extend_from_slice(b"  ")?;
-        text.extend_from_slice(line)?;
+        push_named(text, line)?;
         text.extend_from_slice(b"\n")?;
         rest = next;
     }

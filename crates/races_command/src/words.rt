@@ -13,6 +13,13 @@ pub(crate) fn most_in(words: &Taken<'_>) -> u64
     words.number("preemptions").unwrap_or(0)
 }
 
+/// After how many steps they begin: after none, if it isn't asked for.
+pub(crate) fn from_in(words: &Taken<'_>) -> u64
+    ensures from { result ≡ spec.number_of (codes "from") 0 (taken_words words.now) }
+{
+    words.number("from").unwrap_or(0)
+}
+
 /// Within how many steps they are.
 pub(crate) fn within_in(words: &Taken<'_>) -> u64
     ensures within { result ≡ spec.number_of (codes "within") 0 (taken_words words.now) }

@@ -7,7 +7,7 @@ use Rattle.races_command.proofs.command.search.Goals as goal
 pub send_table-requires-clause-fits : goal.send_table-requires-clause-fits
 send_table-requires-clause-fits g c =
     subst (λ (t : List Row). sum (map (λ row. row.count) t) < 18446744073709551616) (sym c.as_slice.ensures.value)
-    (all_fit _ _ _ c.args.limits.most c.args.limits.within _ c.requires.most c.requires.within c.in-Ok.ensures.explores)
+    (all_fit _ _ _ c.args.limits.most c.args.limits.stretch _ c.requires.most c.requires.within c.in-Ok.ensures.explores)
 
 pub returns-in-Ok : goal.returns-in-Ok
 returns-in-Ok g c = record {
@@ -23,7 +23,7 @@ returns-in-Err-send_table g c = record {
 pub send_table-requires-in-Err-NoMemory-clause-fits : goal.send_table-requires-in-Err-NoMemory-clause-fits
 send_table-requires-in-Err-NoMemory-clause-fits g c =
     subst (λ (t : List Row). sum (map (λ row. row.count) t) < 18446744073709551616) (sym c.as_slice-in-Err-NoMemory.ensures.value)
-    (some_fit _ _ _ c.args.limits.most c.args.limits.within _ c.requires.most c.requires.within c.in-Err-NoMemory.ensures.explores)
+    (some_fit _ _ _ c.args.limits.most c.args.limits.stretch _ c.requires.most c.requires.within c.in-Err-NoMemory.ensures.explores)
 
 pub returns-in-Err-NoMemory : goal.returns-in-Err-NoMemory
 returns-in-Err-NoMemory g c = record {
