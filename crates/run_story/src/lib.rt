@@ -25,7 +25,9 @@ mod console;
 mod endings;
 mod left;
 mod lives;
+mod loops;
 mod story;
 mod traps;
 
+pub use loops::Loops;
 pub use story::Story;
