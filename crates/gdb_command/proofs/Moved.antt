@@ -1,33 +1,48 @@
 -- The run moves, or is watched for something else.
-use Rattle.std.proofs.Common.{◌≡◌, ℕ, List, [], Result, rules, sym, subst, inl, inr}
+use Rattle.std.proofs.Common.{◌≡◌, ℕ, List, true, Result, rules, sym, subst, inl, inr}
 use Rattle.std.specs.Prelude.{OnErr, codes}
 use Rattle.gdb_answers.specs.Stops.{stop_text}
-use Rattle.gdb_answers.specs.declared.stops.Stop.{Stop}
-use Rattle.gdb_command.proofs.Shown.{shows-none}
 use Rattle.gdb_command.specs.Answered.{IsAnswered}
 use Rattle.gdb_command.specs.Console.{ShowsDigits}
-use Rattle.gdb_command.specs.Deeds.{IsMoved, IsPointed, IsSet}
+use Rattle.gdb_command.specs.Deeds.{IsMovedBack, IsMovedOn, IsPointed, IsSet}
 use Rattle.gdb_command.specs.Held.{Held, held, standing}
 use Rattle.gdb_command.specs.declared.session.Session.{Session}
 use Rattle.gdb_packets.specs.declared.commands.PointKind.{PointKind}
 use Rattle.gdb_packets.specs.declared.commands.PointKind.TheVariants.{Break, Write}
+use Rattle.watched_run.specs.Backward.{StopsBack, untold}
+use Rattle.watched_run.specs.Moves.{Stops, orders_of, told_by}
+use Rattle.watched_run.specs.declared.goals.Goal.{Goal}
+use Rattle.watched_run.specs.declared.stopped.Stopped.{Stopped}
 use Rattle.watched_run.specs.declared.watched.WatchedRun.{WatchedRun}
 
-pub moved : (old new : Held) (run : WatchedRun) (stop : Stop) (p : ℕ) (digits before shown sent : List ℕ) → ShowsDigits digits before shown
-    → IsAnswered (standing stop p (record old { run = run })) new (stop_text stop p) shown sent → IsMoved old new before sent
-moved old new run stop p digits before shown sent shows answers = record {
+-- it went on to where it stops
+pub moved-on : (goal : Goal) (old new : Held) (run : WatchedRun) (stopped : Stopped) (digits before shown sent : List ℕ)
+    → Stops (orders_of goal old.run) old.run.replay run.replay stopped → orders_of goal run ≡ told_by stopped.stop run.replay.taken (orders_of goal old.run)
+    → ShowsDigits digits before shown
+    → IsAnswered (standing stopped.stop stopped.process (record old { run = run })) new (stop_text stopped.stop stopped.process) shown sent
+    → IsMovedOn goal old new before sent
+moved-on goal old new run stopped digits before shown sent stops told shows answers = record {
   run = run;
-  stop = stop;
-  process = p;
+  stopped = stopped;
+  goes = record { stops = stops; told = told };
   digits = digits;
   shown = shown;
   shows = shows;
   answers = answers;
 }
 
-pub moved-silently : (old new : Held) (run : WatchedRun) (stop : Stop) (p : ℕ) (before sent : List ℕ)
-    → IsAnswered (standing stop p (record old { run = run })) new (stop_text stop p) before sent → IsMoved old new before sent
-moved-silently old new run stop p before sent answers = moved old new run stop p [] before before sent (shows-none before) answers
+-- it went back to where it stops
+pub moved-back : (goal : Goal) (old new : Held) (run : WatchedRun) (stopped : Stopped) (before sent : List ℕ)
+    → (old.run.replay.known ≡ true → StopsBack (orders_of goal old.run) old.run.replay run.replay stopped)
+    → orders_of goal run ≡ untold (orders_of goal old.run)
+    → IsAnswered (standing stopped.stop stopped.process (record old { run = run })) new (stop_text stopped.stop stopped.process) before sent
+    → IsMovedBack goal old new before sent
+moved-back goal old new run stopped before sent stops told answers = record {
+  run = run;
+  stopped = stopped;
+  goes = record { stops = stops; told = told };
+  answers = answers;
+}
 
 pub pointed : (old new : Held) (run : WatchedRun) (text before sent : List ℕ) → run.replay ≡ old.run.replay
     → IsAnswered (record old { run = run }) new text before sent → IsPointed old new text before sent

@@ -2,7 +2,7 @@
 
 ghost use Rattle.std.specs.Prelude.{◌≡◌, [], OnOk, codes};
 ghost use Rattle.gdb_command.specs.Answered.{IsAnswered};
-ghost use Rattle.gdb_command.specs.Deeds.{Does, IsMoved, IsPointed, IsSet};
+ghost use Rattle.gdb_command.specs.Deeds.{Does, IsMovedBack, IsMovedOn, IsPointed, IsSet};
 ghost use Rattle.gdb_command.specs.Held as spec;
 ghost use Rattle.gdb_command.specs.Held.{held, standing};
 ghost use Rattle.gdb_answers.specs.Stops.{stop_text};
@@ -133,7 +133,7 @@ impl Session {
     // A process makes one instruction.
     fn step(&mut self, threads: Threads, out: &mut Vec<u8>) -> Result<(), HostFault>
         ensures same { OnOk result (IsSameRun self.old.run.replay self.new.run.replay) }
-        ensures moved { OnOk result (IsMoved (held self.old) (held self.new) out.old.items out.new.items) }
+        ensures does { OnOk result (Does (Command.Step threads) [] (held self.old) (held self.new) out.old.items out.new.items) }
         ensures acks { self.new.has_acks ≡ self.old.has_acks }
     {
         let process = self.named(threads, self.go);
@@ -143,7 +143,7 @@ impl Session {
     // The run goes on, and no stop of another thread is told.
     fn go_alone(&mut self, thread: u32, out: &mut Vec<u8>) -> Result<(), HostFault>
         ensures same { OnOk result (IsSameRun self.old.run.replay self.new.run.replay) }
-        ensures moved { OnOk result (IsMoved (held self.old) (held self.new) out.old.items out.new.items) }
+        ensures does { OnOk result (Does (Command.ContinueOne thread) [] (held self.old) (held self.new) out.old.items out.new.items) }
         ensures acks { self.new.has_acks ≡ self.old.has_acks }
     {
         let process = self.named(Threads::One(thread), self.go);
@@ -153,7 +153,7 @@ impl Session {
     // A process goes one instruction back.
     fn step_back(&mut self, out: &mut Vec<u8>) -> Result<(), HostFault>
         ensures same { OnOk result (IsSameRun self.old.run.replay self.new.run.replay) }
-        ensures moved { OnOk result (IsMoved (held self.old) (held self.new) out.old.items out.new.items) }
+        ensures does { OnOk result (Does Command.StepBack [] (held self.old) (held self.new) out.old.items out.new.items) }
         ensures acks { self.new.has_acks ≡ self.old.has_acks }
     {
         let goal = one_of(self.go);
@@ -164,7 +164,7 @@ impl Session {
     #[tactic(auto, using(replayed_run::proofs::SameRuns::again, replayed_run::proofs::SameRuns::still))]
     fn forward(&mut self, goal: &Goal, out: &mut Vec<u8>) -> Result<(), HostFault>
         ensures same { OnOk result (IsSameRun self.old.run.replay self.new.run.replay) }
-        ensures moved { OnOk result (IsMoved (held self.old) (held self.new) out.old.items out.new.items) }
+        ensures moved { OnOk result (IsMovedOn goal.now (held self.old) (held self.new) out.old.items out.new.items) }
         ensures acks { self.new.has_acks ≡ self.old.has_acks }
     {
         let mut console = Vec::new(self.alloc);
@@ -177,7 +177,7 @@ impl Session {
     #[tactic(auto, using(replayed_run::proofs::SameRuns::again, replayed_run::proofs::SameRuns::still))]
     fn back(&mut self, goal: &Goal, out: &mut Vec<u8>) -> Result<(), HostFault>
         ensures same { OnOk result (IsSameRun self.old.run.replay self.new.run.replay) }
-        ensures moved { OnOk result (IsMoved (held self.old) (held self.new) out.old.items out.new.items) }
+        ensures moved { OnOk result (IsMovedBack goal.now (held self.old) (held self.new) out.old.items out.new.items) }
         ensures acks { self.new.has_acks ≡ self.old.has_acks }
     {
         let stopped = go_back(&mut self.run, goal)?;

@@ -9,8 +9,9 @@
 //! |---|---|
 //! | [`debug`] | `debugs`: by a run of the inputs that `run` would fetch, what was written answers what was read, packet by packet: to the end of the session or the input at status 0, else up to a fault; and the cause is told |
 //!
-//! Which process is looked at, what `monitor` shows, acknowledgements, and what is sent again are part of it (`IsServed`). At which point the run
-//! stops, and of which process and why this is told, is shown by sessions (`debugger.md`); no clause says it.
+//! Which process is looked at, what `monitor` shows, acknowledgements, and what is sent again are part of it (`IsServed`). A packet that moves the
+//! run is answered with the stop at which `go_on` or `go_back` of `watched_run` stopped, for the goal that it names, and with the process of that
+//! stop (`IsMovedOn`, `IsMovedBack`). What the console sent on the way is shown by sessions (`debugger.md`); no clause says it.
 #![tactic(auto)]
 
 mod asked;

@@ -1,5 +1,5 @@
 -- What a run that can be had again shows of itself, and that there is such a run.
-use Rattle.std.specs.Prelude.{◌≡◌, ◌≤◌, ℕ, suc, Bool, true, false, List, take, length, ◌==◌, ◌||◌}
+use Rattle.std.specs.Prelude.{◌≡◌, ◌≢◌, ◌≤◌, ◌<◌, ◌==◌, ◌||◌, ℕ, Bool, true, false, List, take, length}
 use Rattle.replayed_run.specs.Told.{Grows, text_of_first}
 use Rattle.run_inputs.specs.Starts.{StartsIn}
 use Rattle.xinu_base.specs.declared.events.Event.{Event}
@@ -24,16 +24,15 @@ pub record Replayed : Type 0 where
   pub told : List (List ℕ)
   pub known : Bool
 
--- No event before the one that was taken last ended the run.
-pub record EndsNotBefore (start : Xinu) (r : Replayed) : Type 0 where
-  pub before : ℕ
-  pub one_more : r.taken ≡ suc before
+-- None of the first n events ended the run, and they printed what is known of them.
+pub record GoesOnAfter (start : Xinu) (r : Replayed) (n : ℕ) : Type 0 where
   pub lines : List TranscriptLine
   pub state : Xinu
-  pub runs : RunsTo start (take before r.events) lines state Schedule
+  pub runs : RunsTo start (take n r.events) lines state Schedule
+  pub printed : r.known ≡ true → text lines ≡ text_of_first r.told n
 
 -- From a sound state in which the images boot on the disks, a run of the first events, as many as were taken, leads to the state, and
--- printed what is known of them; if the run has ended, no event before the last of these ended it.
+-- printed what is known of them; the last of these ended it if it is over, and no event before did.
 pub record IsReplayed (r : Replayed) : Type 0 where
   pub start : Xinu
   pub starts : StartsIn r.disks r.files start
@@ -42,7 +41,8 @@ pub record IsReplayed (r : Replayed) : Type 0 where
   pub end : End
   pub runs : RunsTo start (take r.taken r.events) lines r.state end
   pub goes_on : r.over ≡ false → end ≡ Schedule
-  pub ended : r.over ≡ true → EndsNotBefore start r
+  pub ends : r.over ≡ true → end ≢ Schedule
+  pub before : (n : ℕ) → n < r.taken → GoesOnAfter start r n
   pub within : r.known ≡ true → r.taken ≤ length r.told
   pub printed : r.known ≡ true → text lines ≡ text_of_first r.told r.taken
 

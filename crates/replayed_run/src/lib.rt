@@ -19,7 +19,8 @@
 //! | [`Replay::files`] | | `files`: the files of its images |
 //! | [`Replay::tables`] | | `printed`: the lines of the tables of the state |
 //! | [`Replay::state`] | | `state`, `sound`: the state, part by part |
-//! | [`laws::runs_are_one`] | | a run that comes back to where as many events were taken is in the state that it had there |
+//! | [`laws::runs_are_one`] | | `state`, `over`: a run that comes back to where as many events were taken is in the state that it had there, and is over if it was |
+//! | [`laws::runs_go_on`] | | a run that came to one place isn't over at an earlier one |
 //!
 //! The inputs are those of `run_inputs`, which boots them on copies, and an event is taken by `printed_events`. The crate depends on
 //! `machine` for what an event does, and on `schedule_file` for a copy of the schedule.

@@ -1,5 +1,5 @@
 -- How far a run goes: whose instructions reach a goal, and whose points, traps and changes concern it.
-use Rattle.std.specs.Prelude.{ℕ, ◌==◌, Bool, true, false}
+use Rattle.std.specs.Prelude.{ℕ, ◌==◌, Bool, true, false, if◌then◌else◌}
 use Rattle.watched_run.specs.declared.goals.Goal.{Goal}
 use Rattle.watched_run.specs.declared.goals.Goal.TheVariants.{Alone, Any, Instruction, Point}
 
@@ -44,3 +44,7 @@ teller (Instruction q) p = p
 teller Any p = p
 teller Point p = p
 teller (Alone q) p = q
+
+-- one instruction of process p; of anyone, if it is the null process, which makes none
+abbrev pub one_of : ℕ → Goal
+one_of p = if p == 0 then Any else Instruction p

@@ -1,6 +1,9 @@
+pub mod Backward
 pub mod Goals
+pub mod Going
 pub mod Moments
 pub mod Moves
 pub mod Stops
 pub mod Traps
 pub mod Watching
+pub mod Windows

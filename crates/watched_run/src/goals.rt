@@ -1,6 +1,6 @@
 //! How far the run goes.
 
-ghost use Rattle.std.specs.Prelude.{◌≡◌, ◌==◌, if◌then◌else◌};
+ghost use Rattle.std.specs.Prelude.{◌≡◌};
 ghost use Rattle.watched_run.specs.Goals as goals;
 
 use xinu_base::Pid;
@@ -84,7 +84,7 @@ impl Goal {
 
 /// One instruction of a process; of anyone, if it is the null process, which makes none.
 pub fn one_of(p: Pid) -> Goal
-    ensures one { result ≡ (if p == 0 then Goal.Any else Goal.Instruction p) }
+    ensures one { result ≡ goals.one_of p }
 {
     if p.index() == 0 {
         Goal::Any

@@ -9,13 +9,16 @@
 //! | [`WatchedRun::set`], [`WatchedRun::clear`] | `stays`; `set`, `clear`: the run is to stop ahead of the instruction at an address, or no longer |
 //! | [`WatchedRun::watch`], [`WatchedRun::forget`] | `stays`; `few`, `watch`, `forget`: the run is to stop after a change of some bytes, at most eight, or no longer |
 //! | [`go_on`] | `stops`: the run passes events as long as nothing stops it, and stops with the next one, for this reason and at this process; `told`: of which trap that was told; `same`: it is the same run |
-//! | [`go_back`] | `same`: the run goes back to where it stops, and is the same run |
-//! | [`WatchedRun::seek`] | `same`: it goes to where so many events were taken |
+//! | [`go_back`] | `stops`: the run goes back to the last place before at which anything stops it on its way back, for this reason and at this process, or to its beginning if there is none; `told`: no trap was told; `same`: it is the same run |
+//! | [`WatchedRun::seek`] | `reached`, `within`: it goes to where so many events were taken, or to its end if there are fewer; `same`: it is the same run |
 //! | [`shown`], [`thread_process`] | `shown`, `process`: the process that is looked at first, and that of a thread's number |
 //!
 //! What stops a run is said in `specs/Stops.antt`: a point ahead of an instruction, a trap that is told, a change of bytes that are watched, a
-//! goal that is reached, or the end of the run. [`go_on`] stops with the first event at which there is one. Whether [`go_back`] stops at the
-//! last is shown by sessions (`debugger.md`); no clause says it.
+//! goal that is reached, or the end of the run. [`go_on`] stops with the first event at which there is one.
+//!
+//! What stops a run on its way back is said in `specs/Backward.antt`: an instruction at a point, one that reaches the goal, and an event in which
+//! bytes change that are watched; the run stands ahead of it then. [`go_back`] stops at the last of them, if it is known what the events
+//! printed: that of each is compared with what it was before, so it is known unless a call was refused.
 #![tactic(auto)]
 
 mod backward;

@@ -118,8 +118,8 @@ pub(crate) fn stop_by(
     }
 }
 
-// The process that a change is told of.
-fn changer(run: &WatchedRun, goal: &Goal, who: &Option<Pid>) -> Pid
+/// The process that a change is told of.
+pub(crate) fn changer(run: &WatchedRun, goal: &Goal, who: &Option<Pid>) -> Pid
     ensures changer { result ≡ stops.changer goal.now run.now.replay.state who.now }
 {
     match *who {

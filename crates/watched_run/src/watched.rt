@@ -1,9 +1,10 @@
 //! A run, and what it is watched for: its events are taken one by one, and what each printed is looked through.
 
-ghost use Rattle.std.specs.Prelude.{◌≡◌, [], IfOk, List, None, OnOk, Some, false, nat_lt, true, ℕ};
+ghost use Rattle.std.specs.Prelude.{◌≡◌, ◌≤◌, ◌==◌, ◌||◌, [], IfOk, List, None, OnOk, Some, false, nat_lt, true, ℕ};
 ghost use Rattle.replayed_run.specs.Replayed.{IsSameRun, is_at_end};
 ghost use Rattle.watched_run.specs.Moments as moments;
 ghost use Rattle.watched_run.specs.Moments.{HasTaken, Stands, Takes, TakesSome, was_told};
+ghost use Rattle.watched_run.specs.Windows.{TakesNext};
 ghost use Rattle.watched_run.specs.Watching.{HaveSeen, areas_of, first_changed, with_area, with_point, without_area, without_point};
 
 use crate::lines::{push_console, trap_in};
@@ -196,15 +197,32 @@ impl WatchedRun {
         self.take_event(console)
     }
 
-    /// Takes an event that may print, and doesn't look at what it printed.
+    /// Takes the event that comes next, and doesn't look at what it printed.
     ///
     /// # Errors
     /// Out of memory; `Failed` if an event printed something else when it was taken before.
+    #[tactic(auto, using(replayed_run::proofs::SameRuns::again, replayed_run::proofs::SameRuns::still))]
     pub(crate) fn take_quietly(&mut self) -> Result<(), HostFault>
         ensures same { OnOk result (IsSameRun self.old.replay self.new.replay) }
+        ensures takes { OnOk result (is_at_end self.old.replay ≡ false → TakesNext self.old.replay self.new.replay) }
+        ensures points { self.new.points ≡ self.old.points }
+        ensures told { self.new.told ≡ self.old.told }
+    {
+        if self.take_step() {
+            return Ok(());
+        }
+        self.take_unseen()
+    }
+
+    // Takes an event that may print, and doesn't look at what it printed.
+    fn take_unseen(&mut self) -> Result<(), HostFault>
+        ensures same { OnOk result (IsSameRun self.old.replay self.new.replay) }
+        ensures takes { OnOk result (is_at_end self.old.replay ≡ false → TakesNext self.old.replay self.new.replay) }
+        ensures points { self.new.points ≡ self.old.points }
+        ensures told { self.new.told ≡ self.old.told }
     {
         match self.replay.take() {
-            Ok(_) => Ok(()),
+            Ok(Some(_)) | Ok(None) => Ok(()),
             Err(fault) => Err(HostFault::from(fault)),
         }
     }
@@ -236,6 +254,8 @@ impl WatchedRun {
     /// Out of memory; `Failed` if an event printed something else when it was taken before.
     pub fn seek(&mut self, count: u32) -> Result<(), HostFault>
         ensures same { OnOk result (IsSameRun self.old.replay self.new.replay) }
+        ensures reached { OnOk result ((self.new.replay.taken == count || is_at_end self.new.replay) ≡ true) }
+        ensures within { OnOk result (self.new.replay.taken ≤ count) }
         ensures points { self.new.points ≡ self.old.points }
         ensures told { self.new.told ≡ self.old.told }
     {

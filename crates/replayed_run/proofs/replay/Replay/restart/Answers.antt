@@ -17,7 +17,8 @@ replayed-none r m booted = record {
   end = Schedule;
   runs = (refl, refl, refl);
   goes_on = λ k. refl;
-  ended = λ over. cc (over, booted.goes_on);
+  ends = λ over. absurd (cc (over, booted.goes_on));
+  before = λ n less. absurd (omega (arith, less));
   within = λ k. omega arith;
   printed = λ k. refl;
 }
