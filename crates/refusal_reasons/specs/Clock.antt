@@ -1,0 +1,21 @@
+-- Why the calls on the clock are refused (book, chapter 13).
+use Rattle.std.specs.Prelude.{List, [], ◌∷◌, ℤ, pos, int_lt}
+use Rattle.refusal_reasons.specs.Causes.{Cause, cause, CauseRow, row, is_negative}
+use Rattle.refusal_reasons.specs.declared.reasons.Reason.TheVariants.{NegativeTime, TimeTooLong}
+use Rattle.xinu_model.specs.Words.{signed}
+
+-- `sleep`: so many seconds
+abbrev pub sleep_causes : ℤ → List Cause
+sleep_causes seconds = cause NegativeTime (is_negative seconds) ∷ cause TimeTooLong (int_lt (pos 2147483) seconds) ∷ []
+
+-- `sleepms`: so many ticks
+abbrev pub sleepms_causes : ℤ → List Cause
+sleepms_causes ticks = cause NegativeTime (is_negative ticks) ∷ []
+
+-- the calls on the clock
+abbrev pub clock_causes : List CauseRow
+clock_causes =
+    row 25 (λ a s. sleep_causes (signed (a 0))) ∷
+    row 26 (λ a s. sleepms_causes (signed (a 0))) ∷
+    row 27 (λ a s. []) ∷
+    []

@@ -1,0 +1,12 @@
+pub mod Causes
+pub mod Clock
+pub mod Devices
+pub mod Files
+pub mod Memory
+pub mod Messages
+pub mod Names
+pub mod Pools
+pub mod Ports
+pub mod Processes
+pub mod Reasons
+pub mod Semaphores
