@@ -1,0 +1,10 @@
+pub mod Before
+pub mod Bounds
+pub mod Joins
+pub mod Knowing
+pub mod Parts
+pub mod Prefixes
+pub mod Recent
+pub mod Stepping
+pub mod Telling
+pub mod Times

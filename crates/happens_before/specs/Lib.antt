@@ -1,0 +1,5 @@
+pub mod Clocks
+pub mod Histories
+pub mod Order
+pub mod Races
+pub mod Told
