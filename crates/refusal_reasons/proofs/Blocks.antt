@@ -1,10 +1,10 @@
 -- The heap has a block if and only if enough free cells in a row begin somewhere.
-use Rattle.std.proofs.Common.{◌≡◌, ◌∙◌, ℕ, zero, suc, ◌+◌, ◌*◌, ◌≤◌, ◌==◌, Bool, true, false, not, cond, ◌&&◌, ◌||◌, List, [], ◌∷◌, length, take, refl, sym, ap, arith, Option, Some, None, inl, inr}
+use Rattle.std.proofs.Common.{◌≡◌, ◌∙◌, ℕ, zero, suc, ◌+◌, ◌*◌, ◌≤◌, ◌==◌, Bool, true, false, not, cond, ◌&&◌, ◌||◌, List, [], ◌∷◌, refl, sym, ap, arith, Option, Some, None, ◌<◌, max}
 use Rattle.std.specs.List.{list_any}
-use Rattle.std.specs.Prelude.{is_some, nat_lt, nat_le, option_map}
-use Rattle.std.proofs.lemmas.Bool.{cases_lt, ne_eqb, leb-true, le-ltb, lt-ltb}
+use Rattle.std.specs.Prelude.{is_some, nat_le, option_map}
+use Rattle.std.proofs.lemmas.Bool.{ne_eqb, leb-true}
 use Rattle.refusal_reasons.specs.Memory.{has_free}
-use Rattle.xinu_model.specs.Heap.Cells.{Heap, begins_with, cells_for, grant_at, highest_free, lowest_free, or_here, stack_at, take_memory, take_stack}
+use Rattle.xinu_model.specs.Heap.Cells.{Block, Heap, begins_with, cells_for, grant_at, highest_free, lowest_free, or_here, stack_at, take_memory, take_stack, Grant}
 use Rattle.xinu_model.specs.Pools.Buffers.{pool_bytes, whole_words}
 use Rattle.xinu_model.specs.Process.Creation.{stack_size}
 
@@ -73,21 +73,35 @@ some_pool size n e = some_buffers (whole_words size) n (leb-true 1 n e)
     some_buffers w zero h = absurd (omega arith)
     some_buffers w (suc n) h = ne_eqb (suc n * (w + 4)) 0 (λ e. omega arith)
 
--- cells are taken if they exist, and none of them is free
-pub taken_cells : (k : ℕ) (cells : List Bool)
-    → begins_with false k cells ≡ (not (nat_lt (length cells) k) && not (list_any (λ free. free) (take k cells)))
-taken_cells zero cells = ap (λ b. not b && true) (sym (le-ltb (length cells) 0 (omega arith)))
-taken_cells (suc k) [] = ap (λ b. not b && true) (sym (lt-ltb 0 (suc k) (omega arith)))
-taken_cells (suc k) (true ∷ cells) = no_cell (nat_lt (suc (length cells)) (suc k))
-  where
-    no_cell : (b : Bool) → false ≡ (not b && false)
-    no_cell true = refl
-    no_cell false = refl
-taken_cells (suc k) (false ∷ cells) =
-    taken_cells k cells ∙ ap (λ b. not b && not (list_any (λ free. free) (take k cells))) (sym (one_more (length cells) k))
-  where
-    one_more : (n k : ℕ) → nat_lt (suc n) (suc k) ≡ nat_lt n k
-    one_more n k = elim (cases_lt n k) [
-      | inl below ↦ lt-ltb (suc n) (suc k) (omega arith) ∙ sym (lt-ltb n k below)
-      | inr above ↦ le-ltb (suc n) (suc k) (omega arith) ∙ sym (le-ltb n k above)
-    ]
+-- a place is found if there is a block
+mapped_some : (o : Option Grant) → is_some (option_map (λ (g : Grant). g.address) o) ≡ is_some o
+mapped_some None = refl
+mapped_some (Some g) = refl
+
+pub opposite : (a b : Bool) → a ≡ not b → b ≡ not a
+opposite true true e = absurd (cc)
+opposite true false e = refl
+opposite false true e = refl
+opposite false false e = absurd (cc)
+
+pub place_none : (n : ℕ) (h : Heap) (o : Option ℕ) (b : Bool) → 0 < n → o ≡ option_map (λ (g : Grant). g.address) (take_memory n h)
+    → is_some o ≡ not b → b ≡ not (has_free (cells_for n) h.cells)
+place_none n h o b some e f =
+    opposite (is_some o) b f
+    ∙ ap not (ap is_some e ∙ mapped_some (take_memory n h) ∙ memory_found n h ∙ ap (λ t. not t && has_free (cells_for n) h.cells) (ne_eqb n 0 (λ z. omega (arith, some, z))))
+
+-- a stack has as many cells as what was asked for
+pub whole_stack : (wanted : ℕ) → cells_for (stack_size wanted) ≡ cells_for (max wanted 400)
+whole_stack wanted = omega arith
+
+-- what passes a test in a list of which so much is left
+pub found_here : (test : Block → Bool) (whole left rest : List Block) (b : Block) → list_any test whole ≡ list_any test left → left ≡ b ∷ rest
+    → test b ≡ true → true ≡ list_any test whole
+found_here test whole left rest b e f h = sym (e ∙ ap (list_any test) f ∙ ap (λ t. t || list_any test rest) h)
+
+pub found_later : (test : Block → Bool) (whole left rest : List Block) (b : Block) → list_any test whole ≡ list_any test left → left ≡ b ∷ rest
+    → test b ≡ false → list_any test whole ≡ list_any test rest
+found_later test whole left rest b e f h = e ∙ ap (list_any test) f ∙ ap (λ t. t || list_any test rest) h
+
+pub found_nowhere : (test : Block → Bool) (whole left : List Block) → list_any test whole ≡ list_any test left → left ≡ [] → false ≡ list_any test whole
+found_nowhere test whole left e f = sym (e ∙ ap (list_any test) f)

@@ -1,21 +1,22 @@
 -- Each call that isn't on a device answers -1 if and only if one of its causes holds.
-use Rattle.std.proofs.Common.{◌≡◌, ◌∙◌, ℕ, zero, suc, ◌+◌, ◌-◌, ◌*◌, ◌/◌, ◌%◌, ◌<◌, ◌==◌, Bool, true, false, not, cond, ◌&&◌, ◌||◌, List, [], ◌∷◌, length, take, drop, refl, sym, ap, subst, arith, Option, Some, None, ℤ, pos, negsuc}
+use Rattle.std.proofs.Common.{◌≡◌, ◌∙◌, ℕ, zero, suc, ◌+◌, ◌*◌, ◌%◌, ◌<◌, ◌==◌, Bool, true, false, not, cond, ◌&&◌, ◌||◌, List, [], ◌∷◌, length, take, drop, refl, sym, ap, subst, arith, Option, Some, None, ℤ, pos, negsuc}
 use Rattle.std.specs.Prelude.{is_some, max, nat_le, nat_lt, int_lt, ◌+ℤ◌}
 use Rattle.std.specs.List.{list_any}
 use Rattle.std.proofs.lemmas.Bool.{eqb-true, lt-ltb, ltb-true}
 use Rattle.event_laws.specs.Replies.{first_of}
-use Rattle.refusal_reasons.specs.Causes.{Cause, cause, first_reason, is_minus_one, is_minus_one_message, answers_minus_one}
+use Rattle.refusal_reasons.specs.Causes.{cause, first_reason, is_minus_one, is_minus_one_message, is_negative, answers_minus_one}
+use Rattle.refusal_reasons.specs.declared.reasons.Cause.{Cause}
 use Rattle.refusal_reasons.specs.Clock.{sleep_causes, sleepms_causes}
-use Rattle.refusal_reasons.specs.Memory.{has_free, taking_causes, freemem_causes, bottom_of, freestk_causes}
+use Rattle.refusal_reasons.specs.Memory.{are_free, bottom_of, cells_from, freemem_causes, freestk_causes, has_free, taking_causes}
 use Rattle.refusal_reasons.specs.Messages.{send_causes, message_told, recvtime_causes}
-use Rattle.refusal_reasons.specs.Pools.{bytes_for, grant_meets, mkbufpool_causes, getbuf_causes, freebuf_causes}
+use Rattle.refusal_reasons.specs.Pools.{bytes_for, grant_meets, is_anywhere_free, is_anywhere_held, mkbufpool_causes, getbuf_causes, freebuf_causes}
 use Rattle.refusal_reasons.specs.Ports.{free_ports, ptcreate_causes, disposal_causes, can_take, no_port, ptrecv_causes}
 use Rattle.refusal_reasons.specs.Processes.{create_causes, resume_causes, suspend_causes, kill_causes, priority_causes}
-use Rattle.refusal_reasons.specs.Semaphores.{free_semaphores, semcreate_causes, semaphore_named, semreset_causes, semcount_causes, signal_causes, signaln_causes}
+use Rattle.refusal_reasons.specs.Semaphores.{free_semaphores, semcreate_causes, semaphore_named, semreset_causes, semcount_causes, signal_causes, signaln_causes, kernel_semaphore, no_free_semaphore, no_semaphore}
 use Rattle.refusal_reasons.specs.declared.reasons.Reason.{Reason}
 use Rattle.refusal_reasons.specs.declared.reasons.Reason.TheVariants as reason
-use Rattle.refusal_reasons.proofs.Blocks.{memory_found, stack_found, some_stack, some_pool, taken_cells}
-use Rattle.refusal_reasons.proofs.Combined.{Tells, tells, by_cause, refused_if, refused_unless, refused_if_either, status_if, status_unless, one_cause, value_told, neither, semaphore_told, semaphore_tested, semaphore_refused}
+use Rattle.refusal_reasons.proofs.Blocks.{memory_found, stack_found, some_stack, some_pool}
+use Rattle.refusal_reasons.proofs.Combined.{Tells, tells, by_cause, refused_if, refused_unless, refused_if_either, status_if, status_unless, value_told, neither, semaphore_told, semaphore_tested, semaphore_refused}
 use Rattle.refusal_reasons.proofs.Counted.{process_counts, semaphore_counts, port_counts, second_counts}
 use Rattle.xinu_base.specs.declared.processes.Rest.{Rest}
 use Rattle.xinu_base.specs.declared.processes.Rest.TheVariants as rest
@@ -31,7 +32,7 @@ use Rattle.xinu_model.specs.Heap.Cells.{Heap, Grant, Stack, begins_with, cells_f
 use Rattle.xinu_model.specs.Machine.{Xinu, Waits, Panics, CallState, CallResult, start, blocked, ready_later, returns, refused}
 use Rattle.xinu_model.specs.Memory.{in_ram}
 use Rattle.xinu_model.specs.Messages.{held, received, recvtime, receive, recvclr, send}
-use Rattle.xinu_model.specs.Pools.Buffers.{BufferPool, most_pools, buffers, holder, holder_from, is_held, is_in, pool_at, whole_words, meets_pool}
+use Rattle.xinu_model.specs.Pools.Buffers.{BufferPool, most_pools, holder, holder_from, is_held, pool_at, whole_words, meets_pool}
 use Rattle.xinu_model.specs.Pools.Calls.{made_pool, with_pool, mkbufpool, take_first, take_buffer, getbuf, freed_by, freebuf}
 use Rattle.xinu_model.specs.Ports.Calls.{cleared, deleted, emptied_port, free_port, started_port, made_port, ptcreate, ptdelete, ptreset, ptsend, ptrecv, deleted_where, reset_where, put_message, finish_send, take_message, take_from, finish_receive, ticket_of, sent_to, received_from}
 use Rattle.xinu_model.specs.Ports.Queues.{PortQueue, most_nodes, nodes, port_at, queued}
@@ -167,63 +168,52 @@ getstk_told n s =
     tells (stacked_some (take_stack n s.parts.heap) s ∙ ap not (stack_found n s.parts.heap)
     ∙ two_causes reason.NoBytes reason.NoBlock (n == 0) (has_free (cells_for n) s.parts.heap.cells))
 
--- bytes that are given back: they have to be in the heap, and none of them free
-freed_told : (k start : ℕ) (h : Heap) (s : Xinu)
-    → Tells (cause reason.OutsideHeap (nat_lt (length (drop start h.cells)) k) ∷ cause reason.FreeAlready (list_any (λ free. free) (take k (drop start h.cells))) ∷ [])
-    (given_back (freed h start k) s)
-freed_told k start h s =
-    let cells = drop start h.cells in
-    tells (given_some (freed h start k) s ∙ ap not (freed_some (begins_with false k cells) _ ∙ taken_cells k cells)
-    ∙ either (nat_lt (length cells) k) (list_any (λ free. free) (take k cells)))
-  where
-    freed_some : (b : Bool) (free : Heap) → is_some (cond b (Some free) None) ≡ b
-    freed_some true free = refl
-    freed_some false free = refl
+-- bytes that are given back: they have to be taken
+freed_some : (low begins : Bool) (free : Heap) → is_some (cond low None (cond begins (Some free) None)) ≡ (not low && begins)
+freed_some true begins free = refl
+freed_some false true free = refl
+freed_some false false free = refl
 
-    either : (a b : Bool) → not (not a && not b) ≡ is_some (first_reason (cause reason.OutsideHeap a ∷ cause reason.FreeAlready b ∷ []))
-    either true b = refl
-    either false true = refl
-    either false false = refl
+giving_told : (taken free : Bool) → not taken ≡ is_some (first_reason (cause reason.FreeAlready (not taken && free) ∷ cause reason.NotTaken (not taken) ∷ []))
+giving_told true free = refl
+giving_told false true = refl
+giving_told false false = refl
 
 -- call 11
-memory_told : (none aligned low outside free : Bool) (found : Option Heap) (s : Xinu)
-    → Tells (cause reason.OutsideHeap outside ∷ cause reason.FreeAlready free ∷ []) (given_back found s)
-    → Tells (cause reason.NoBytes none ∷ cause reason.NotAligned (not aligned) ∷ cause reason.OutsideHeap (low || outside) ∷ cause reason.FreeAlready free ∷ [])
-    (given_back (cond (none || (not aligned || low)) None found) s)
-memory_told true aligned low outside free found s k = tells refl
-memory_told false false low outside free found s k = tells refl
-memory_told false true true outside free found s k = tells refl
-memory_told false true false outside free found s k = tells k.told
+memory_told : (r : Reason) (none aligned low begins meets : Bool) (free : Heap) (s : Xinu)
+    → Tells (cause reason.NoBytes none ∷ cause r (not aligned) ∷ cause reason.FreeAlready (not (not low && begins) && meets) ∷ cause reason.NotTaken (not (not low && begins)) ∷ [])
+    (given_back (cond (none || (not aligned || low)) None (cond begins (Some free) None)) s)
+memory_told r true aligned low begins meets free s = tells refl
+memory_told r false false low begins meets free s = tells refl
+memory_told r false true low begins meets free s =
+    let found = cond low None (cond begins (Some free) None) in
+    tells (given_some found s ∙ ap not (freed_some low begins free) ∙ giving_told (not low && begins) meets)
 
 pub freemem_told : (a n : ℕ) (s : Xinu) → Tells (freemem_causes a n s.parts.heap) (freemem a n s)
 freemem_told a n s =
     let h = s.parts.heap in
-    memory_told (n == 0) (a % 8 == 0) (nat_lt a h.low) _ _ (freed h ((a - h.low) / 8) (cells_for n)) s
-    (freed_told (cells_for n) ((a - h.low) / 8) h s)
+    memory_told reason.NotAligned (n == 0) (a % 8 == 0) (nat_lt a h.low) (begins_with false (cells_for n) (cells_from a h)) (are_free a n h) _ s
 
 -- call 13
-bottom_told : (none below aligned low outside free : Bool) (found : Option Heap) (s : Xinu)
-    → Tells (cause reason.OutsideHeap outside ∷ cause reason.FreeAlready free ∷ []) (given_back found s)
-    → Tells (cause reason.NoBytes none ∷ cause reason.OutsideHeap below ∷ cause reason.NotTop (not aligned) ∷ cause reason.OutsideHeap (low || outside) ∷ cause reason.FreeAlready free ∷ [])
-    (given_back (cond below None (cond (none || (not aligned || low)) None found)) s)
-bottom_told true true aligned low outside free found s k = tells refl
-bottom_told true false aligned low outside free found s k = tells refl
-bottom_told false true aligned low outside free found s k = tells refl
-bottom_told false false false low outside free found s k = tells refl
-bottom_told false false true true outside free found s k = tells refl
-bottom_told false false true false outside free found s k = tells k.told
+bottom_told : (none below aligned low begins meets : Bool) (free : Heap) (s : Xinu)
+    → Tells (cause reason.NoBytes none ∷ cause reason.NotTop (below || not aligned) ∷ cause reason.FreeAlready (not (not low && begins) && meets) ∷ cause reason.NotTaken (not (not low && begins)) ∷ [])
+    (given_back (cond below None (cond (none || (not aligned || low)) None (cond begins (Some free) None))) s)
+bottom_told true true aligned low begins meets free s = tells refl
+bottom_told true false aligned low begins meets free s = tells refl
+bottom_told false true aligned low begins meets free s = tells refl
+bottom_told false false aligned low begins meets free s = tells (memory_told reason.NotTop false aligned low begins meets free s).told
 
 pub freestk_told : (a n : ℕ) (s : Xinu) → Tells (freestk_causes a n s.parts.heap) (freestk a n s)
 freestk_told a n s =
     let h = s.parts.heap in
     let b = bottom_of a n in
-    bottom_told (n == 0) (nat_lt (a + 4) (8 * cells_for n)) (b % 8 == 0) (nat_lt b h.low) _ _ (freed h ((b - h.low) / 8) (cells_for n)) s
-    (freed_told (cells_for n) ((b - h.low) / 8) h s)
+    bottom_told (n == 0) (nat_lt (a + 4) (8 * cells_for n)) (b % 8 == 0) (nat_lt b h.low) (begins_with false (cells_for n) (cells_from b h)) (are_free b n h) _ s
 
 -- call 14
-pub semcreate_told : (count : ℤ) (s : Xinu) → IsSoundTables s.tables → Tells (semcreate_causes count s) (semcreate count s)
-semcreate_told (negsuc n) s sound = tells refl
-semcreate_told (pos n) s sound =
+created_semaphore_told : (count : ℤ) (s : Xinu) → IsSoundTables s.tables
+    → Tells (cause reason.NegativeCount (is_negative count) ∷ no_free_semaphore s ∷ []) (semcreate count s)
+created_semaphore_told (negsuc n) s sound = tells refl
+created_semaphore_told (pos n) s sound =
     tells (tells_not reason.NoFreeSemaphore _ (is_some (free_semaphore s.tables)) [] (semcreate (pos n) s)
     (semaphore_counts s.tables sound.inside.semaphores) (made (free_semaphore s.tables))).told
   where
@@ -231,16 +221,23 @@ semcreate_told (pos n) s sound =
     made None = tells refl
     made (Some sem) = tells refl
 
+pub semcreate_told : (count : ℕ) (s : Xinu) → IsSoundTables s.tables → Tells (semcreate_causes count s) (semcreate (signed count) s)
+semcreate_told count s sound = created_semaphore_told (signed count) s sound
+
 -- call 15
 pub semdelete_told : (sem : ℕ) (s : Xinu) → Tells (semaphore_named sem s) (semdelete sem s)
 semdelete_told sem s = semaphore_told reason.NoSemaphore reason.KernelSemaphore (semaphore_at s.tables sem).owner [] s _ (tells refl)
 
 -- call 16
-pub semreset_told : (sem : ℕ) (count : ℤ) (s : Xinu) → Tells (semreset_causes sem count s) (semreset sem count s)
-semreset_told sem (negsuc n) s =
+reset_semaphore_told : (sem : ℕ) (count : ℤ) (s : Xinu)
+    → Tells (no_semaphore sem s ∷ kernel_semaphore sem s ∷ cause reason.NegativeCount (is_negative count) ∷ []) (semreset sem count s)
+reset_semaphore_told sem (negsuc n) s =
     semaphore_refused reason.NoSemaphore reason.KernelSemaphore reason.NegativeCount (not (is_some (semaphore_at s.tables sem).owner))
     (not (is_images (semaphore_at s.tables sem).owner)) [] s
-semreset_told sem (pos n) s = semaphore_told reason.NoSemaphore reason.KernelSemaphore (semaphore_at s.tables sem).owner _ s _ (tells refl)
+reset_semaphore_told sem (pos n) s = semaphore_told reason.NoSemaphore reason.KernelSemaphore (semaphore_at s.tables sem).owner _ s _ (tells refl)
+
+pub semreset_told : (sem count : ℕ) (s : Xinu) → Tells (semreset_causes sem count s) (semreset sem (signed count) s)
+semreset_told sem count s = reset_semaphore_told sem (signed count) s
 
 -- call 17
 pub semcount_told : (sem : ℕ) (s : Xinu) → Tells (semcount_causes sem s) (semcount sem s)
@@ -264,11 +261,12 @@ signal_told sem s =
     (int_lt (count_of (semaphore_at s.tables sem)) most_tokens) s _ (tells refl)
 
 -- call 20
-pub signaln_told : (sem : ℕ) (n : ℤ) (s : Xinu) → Tells (signaln_causes sem n s) (signaln sem n s)
-signaln_told sem (negsuc n) s =
+n_signals_told : (sem : ℕ) (n : ℤ) (s : Xinu)
+    → Tells (no_semaphore sem s ∷ kernel_semaphore sem s ∷ cause reason.NegativeSignals (is_negative n) ∷ cause reason.CountTooGreat (int_lt most_tokens (count_of (semaphore_at s.tables sem) +ℤ n)) ∷ []) (signaln sem n s)
+n_signals_told sem (negsuc n) s =
     semaphore_refused reason.NoSemaphore reason.KernelSemaphore reason.NegativeSignals (not (is_some (semaphore_at s.tables sem).owner))
     (not (is_images (semaphore_at s.tables sem).owner)) _ s
-signaln_told sem (pos n) s =
+n_signals_told sem (pos n) s =
     signals_told (semaphore_at s.tables sem).owner (int_lt most_tokens (count_of (semaphore_at s.tables sem) +ℤ pos n)) _ s
   where
     signals_told : (owner : Option Owner) (b : Bool) (d : CallState) (s : Xinu)
@@ -282,6 +280,9 @@ signaln_told sem (pos n) s =
         by_owner false b = tells refl
         by_owner true true = tells refl
         by_owner true false = tells refl
+
+pub signaln_told : (sem n : ℕ) (s : Xinu) → Tells (signaln_causes sem n s) (signaln sem (signed n) s)
+signaln_told sem n s = n_signals_told sem (signed n) s
 
 -- call 21
 sent_told : (free some : Bool) (d : CallState) (s : Xinu)
@@ -306,22 +307,32 @@ pub recvclr_told : (s : Xinu) → Tells (message_told s ∷ []) (recvclr s)
 recvclr_told s = received_told (held s) _ s (tells refl)
 
 -- call 24
-pub recvtime_told : (ticks : ℤ) (s : Xinu) → Tells (recvtime_causes ticks s) (recvtime ticks s)
-recvtime_told (negsuc n) s = tells refl
-recvtime_told (pos n) s = tells (received_told (held s) (blocked Timed rest.Timed (InSleepers (s.tables.ticks + max 1 n)) s) s (tells refl)).told
+timed_told : (ticks : ℤ) (s : Xinu) → Tells (cause reason.NegativeTime (is_negative ticks) ∷ message_told s ∷ []) (recvtime ticks s)
+timed_told (negsuc n) s = tells refl
+timed_told (pos n) s = tells (received_told (held s) (blocked Timed rest.Timed (InSleepers (s.tables.ticks + max 1 n)) s) s (tells refl)).told
+
+pub recvtime_told : (ticks : ℕ) (s : Xinu) → Tells (recvtime_causes ticks s) (recvtime (signed ticks) s)
+recvtime_told ticks s = timed_told (signed ticks) s
 
 -- calls 25 and 26
 slept : (n : ℕ) (s : Xinu) → Tells [] (sleepms (pos n) s)
 slept zero s = tells refl
 slept (suc n) s = tells refl
 
-pub sleep_told : (seconds : ℤ) (s : Xinu) → Tells (sleep_causes seconds) (sleep seconds s)
-sleep_told (negsuc n) s = tells refl
-sleep_told (pos n) s = tells (refused_if reason.TimeTooLong (nat_lt 2147483 n) [] s _ (λ _. slept (1000 * n) s)).told
+seconds_told : (seconds : ℤ) (s : Xinu)
+    → Tells (cause reason.NegativeTime (is_negative seconds) ∷ cause reason.TimeTooLong (int_lt (pos 2147483) seconds) ∷ []) (sleep seconds s)
+seconds_told (negsuc n) s = tells refl
+seconds_told (pos n) s = tells (refused_if reason.TimeTooLong (nat_lt 2147483 n) [] s _ (λ _. slept (1000 * n) s)).told
 
-pub sleepms_told : (ticks : ℤ) (s : Xinu) → Tells (sleepms_causes ticks) (sleepms ticks s)
-sleepms_told (negsuc n) s = tells refl
-sleepms_told (pos n) s = tells (slept n s).told
+pub sleep_told : (seconds : ℕ) (s : Xinu) → Tells (sleep_causes seconds) (sleep (signed seconds) s)
+sleep_told seconds s = seconds_told (signed seconds) s
+
+ticks_told : (ticks : ℤ) (s : Xinu) → Tells (cause reason.NegativeTime (is_negative ticks) ∷ []) (sleepms ticks s)
+ticks_told (negsuc n) s = tells refl
+ticks_told (pos n) s = tells (slept n s).told
+
+pub sleepms_told : (ticks : ℕ) (s : Xinu) → Tells (sleepms_causes ticks) (sleepms (signed ticks) s)
+sleepms_told ticks s = ticks_told (signed ticks) s
 
 -- call 28
 pool_told : (found : Option Grant) (sem : Option ℕ) (size n : ℕ) (s : Xinu)
@@ -374,7 +385,7 @@ getbuf_told i s pools =
     (let k = (pools.each i (ltb-true i (length s.parts.pools) b)).enough in omega arith)))
 
 -- call 30
-holder_some : (a i : ℕ) (pools : List BufferPool) → is_some (holder_from a i pools) ≡ list_any (is_held a) pools
+pub holder_some : (a i : ℕ) (pools : List BufferPool) → is_some (holder_from a i pools) ≡ list_any (is_held a) pools
 holder_some a i [] = refl
 holder_some a i (pool ∷ pools) = by_first (is_held a pool) (holder_some a (i + 1) pools)
   where
@@ -383,32 +394,19 @@ holder_some a i (pool ∷ pools) = by_first (is_held a pool) (holder_some a (i +
     by_first true e = refl
     by_first false e = e
 
--- what is in no pool isn't held
-none_held : (a : ℕ) (pools : List BufferPool) → list_any (λ (pool : BufferPool). is_in a (buffers pool)) pools ≡ false
-    → list_any (is_held a) pools ≡ false
-none_held a [] e = refl
-none_held a (pool ∷ pools) e = by_first (is_in a (buffers pool)) (not (is_in a pool.free)) e (none_held a pools)
-  where
-    by_first : (b c : Bool) → (b || list_any (λ (x : BufferPool). is_in a (buffers x)) pools) ≡ false
-        → (list_any (λ (x : BufferPool). is_in a (buffers x)) pools ≡ false → list_any (is_held a) pools ≡ false)
-        → ((b && c) || list_any (is_held a) pools) ≡ false
-    by_first true c f g = absurd (cc)
-    by_first false c f g = g f
-
-freed_some : (found : Option ℕ) (a : ℕ) (s : Xinu) → answers_minus_one (freed_by found a s).answer ≡ not (is_some found)
-freed_some None a s = refl
-freed_some (Some i) a s = refl
+held_some : (found : Option ℕ) (a : ℕ) (s : Xinu) → answers_minus_one (freed_by found a s).answer ≡ not (is_some found)
+held_some None a s = refl
+held_some (Some i) a s = refl
 
 pub freebuf_told : (a : ℕ) (s : Xinu) → Tells (freebuf_causes a s) (freebuf a s)
 freebuf_told a s =
     let pools = s.parts.pools in
-    tells (freed_some (holder a pools) a s ∙ ap not (holder_some a 0 pools)
-    ∙ by_two (list_any (λ (pool : BufferPool). is_in a (buffers pool)) pools) (list_any (is_held a) pools) (none_held a pools))
+    tells (held_some (holder a pools) a s ∙ ap not (holder_some a 0 pools) ∙ either (is_anywhere_held a pools) (is_anywhere_free a pools))
   where
-    by_two : (b c : Bool) → (b ≡ false → c ≡ false)
-        → not c ≡ is_some (first_reason (cause reason.NoBuffer (not b) ∷ cause reason.BufferIsFree (not c) ∷ []))
-    by_two true c f = one_cause reason.BufferIsFree (not c)
-    by_two false c f = ap not (f refl)
+    either : (held free : Bool) → not held ≡ is_some (first_reason (cause reason.BufferIsFree (not held && free) ∷ cause reason.NotHeld (not held) ∷ []))
+    either true free = refl
+    either false true = refl
+    either false false = refl
 
 -- call 31
 two_ports : (q first : Option ℕ) (n : ℕ) (s : Xinu) (two : Bool)
@@ -426,10 +424,11 @@ two_ports (Some p) (Some k) n s two f g =
     made None = tells refl
     made (Some second) = tells refl
 
-pub ptcreate_told : (room : ℤ) (s : Xinu) → IsSoundTables s.tables → ArePorts s.tables s.parts.ports
-    → Tells (ptcreate_causes room s) (ptcreate room s)
-ptcreate_told (negsuc n) s sound ports = tells refl
-ptcreate_told (pos n) s sound ports =
+made_port_told : (room : ℤ) (s : Xinu) → IsSoundTables s.tables → ArePorts s.tables s.parts.ports
+    → Tells (cause reason.NegativeCount (is_negative room) ∷ cause reason.NoFreePort (nat_lt (free_ports s.parts.ports) 1) ∷ cause reason.NoTwoSemaphores (nat_lt (free_semaphores s.tables) 2) ∷ [])
+    (ptcreate room s)
+made_port_told (negsuc n) s sound ports = tells refl
+made_port_told (pos n) s sound ports =
     let two = cause reason.NoTwoSemaphores (nat_lt (free_semaphores s.tables) 2) in
     tells (tells_not reason.NoFreePort (nat_lt (free_ports s.parts.ports) 1) (is_some (free_port s)) (two ∷ []) (ptcreate (pos n) s) (port_counts s ports.many)
     (two_ports (free_port s) (free_semaphore s.tables) n s (nat_lt (free_semaphores s.tables) 2)
@@ -438,6 +437,10 @@ ptcreate_told (pos n) s sound ports =
   where
     none_counts : (n : ℕ) → nat_lt n 1 ≡ true → nat_lt n 2 ≡ true
     none_counts n e = let lt = ltb-true n 1 e in lt-ltb n 2 (omega arith)
+
+pub ptcreate_told : (room : ℕ) (s : Xinu) → IsSoundTables s.tables → ArePorts s.tables s.parts.ports
+    → Tells (ptcreate_causes room s) (ptcreate (signed room) s)
+ptcreate_told room s sound ports = made_port_told (signed room) s sound ports
 
 -- calls 32 and 33
 pub ptdelete_told : (q how : ℕ) (s : Xinu) → Tells (disposal_causes q how s) (ptdelete q how s)

@@ -1,7 +1,8 @@
 -- How causes and the tests of a call go together: each test of the call has its cause, in any order.
 use Rattle.std.proofs.Common.{◌≡◌, ℕ, Bool, true, false, not, cond, ◌&&◌, ◌||◌, List, [], ◌∷◌, Option, Some, None, refl, ℤ, pos}
 use Rattle.std.specs.Prelude.{is_some}
-use Rattle.refusal_reasons.specs.Causes.{Cause, cause, first_reason, is_minus_one, answers_minus_one}
+use Rattle.refusal_reasons.specs.Causes.{cause, first_reason, is_minus_one, answers_minus_one}
+use Rattle.refusal_reasons.specs.declared.reasons.Cause.{Cause}
 use Rattle.refusal_reasons.specs.declared.reasons.Reason.{Reason}
 use Rattle.xinu_base.specs.declared.semaphores.Owner.{Owner}
 use Rattle.xinu_model.specs.Machine.{Xinu, CallState, CallResult, returns, refused}

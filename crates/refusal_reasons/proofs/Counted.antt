@@ -1,11 +1,12 @@
 -- A search finds a free number if and only if one is counted.
-use Rattle.std.proofs.Common.{◌≡◌, ◌∙◌, ℕ, zero, suc, ◌+◌, ◌-◌, ◌<◌, Bool, true, false, not, cond, List, [], ◌∷◌, length, get_or, refl, sym, ap, subst, arith, Option, Some, None, inl, inr}
+use Rattle.std.proofs.Common.{◌≡◌, ◌∙◌, ℕ, zero, suc, ◌+◌, ◌-◌, ◌<◌, Bool, true, false, not, cond, List, [], ◌∷◌, length, get_or, refl, sym, ap, subst, arith, Option, Some, None, inl, inr, take}
 use Rattle.std.specs.List.{find}
 use Rattle.std.specs.Option.{option_or}
 use Rattle.std.specs.Prelude.{is_some, nat_lt, min}
 use Rattle.std.proofs.lemmas.Bool.{cases_lt, cond_both, le-ltb, lt-ltb}
 use Rattle.std.proofs.lemmas.List.{length-set}
 use Rattle.std.proofs.lemmas.List.Folds.{find-append}
+use Rattle.refusal_reasons.proofs.Blocks.{opposite}
 use Rattle.refusal_reasons.specs.Ports.{free_ports}
 use Rattle.refusal_reasons.specs.Processes.{free_processes}
 use Rattle.refusal_reasons.specs.Semaphores.{free_semaphores}
@@ -16,7 +17,7 @@ use Rattle.xinu_base.specs.declared.semaphores.Owner.{Owner}
 use Rattle.xinu_model.proofs.Searches.{find_none}
 use Rattle.xinu_model.specs.Machine.{Xinu}
 use Rattle.xinu_model.specs.Ports.Calls.{free_port}
-use Rattle.xinu_model.specs.Ports.Queues.{MessagePort, is_used, no_port}
+use Rattle.xinu_model.specs.Ports.Queues.{MessagePort, is_used, no_port, port_at, most_ports}
 use Rattle.xinu_model.specs.Process.Creation.{free_process}
 use Rattle.xinu_model.specs.Searches.{numbers_from, search}
 use Rattle.xinu_model.specs.Semaphores.Counts.{free_semaphore, make_semaphore}
@@ -98,3 +99,33 @@ second_counts t sem by n e f =
     one_less : (n k : ℕ) → n ≡ suc k → nat_lt n 2 ≡ nat_lt k 1
     one_less n zero e = lt-ltb n 2 (omega arith)
     one_less n (suc k) e = le-ltb n 2 (omega arith) ∙ sym (le-ltb (suc k) 1 (omega arith))
+
+-- a number that is sought and not found
+pub no_process_free : (t : Tables) (o : Option ℕ) (b : Bool) → length t.processes ≡ 64 → o ≡ free_process t → is_some o ≡ not b
+    → b ≡ nat_lt (free_processes t) 1
+no_process_free t o b e f g = opposite (is_some o) b g ∙ ap (λ x. not (is_some x)) f ∙ sym (process_counts t e)
+
+pub no_port_free : (ports : List MessagePort) (first : ℕ) (o : Option ℕ) (b : Bool) → length ports ≡ 30
+    → o ≡ search (λ q. not (is_used (port_at ports q))) most_ports first → is_some o ≡ not b → b ≡ nat_lt (free_ports ports) 1
+no_port_free ports first o b e f g =
+    opposite (is_some o) b g ∙ ap (λ x. not (is_some x)) f ∙ sym (search_counts (λ (x : MessagePort). not (is_used x)) ports no_port 30 first e)
+
+-- a count goes on with the next element
+times_next : {A : Type 0} (test : A → Bool) (l : List A) (i : ℕ) (d : A) → i < length l
+    → times test (take (suc i) l) ≡ times test (take i l) + cond (test (get_or l i d)) 1 0
+times_next test [] i d lt = absurd (omega arith)
+times_next test (x ∷ l) zero d lt = by_test (test x)
+  where
+    by_test : (b : Bool) → cond b 1 0 ≡ 0 + cond b 1 0
+    by_test true = refl
+    by_test false = refl
+times_next test (x ∷ l) (suc i) d lt =
+    by_test (test x) (times test (take (suc i) l)) (times test (take i l)) (cond (test (get_or l i d)) 1 0) (times_next test l i d (omega arith))
+  where
+    by_test : (b : Bool) (m n k : ℕ) → m ≡ n + k → cond b (suc m) m ≡ cond b (suc n) n + k
+    by_test true m n k e = omega (arith, e)
+    by_test false m n k e = e
+
+pub times_more : {A : Type 0} (test : A → Bool) (l : List A) (i : ℕ) (d : A) → i < length l
+    → times test (take (i + 1) l) ≡ times test (take i l) + cond (test (get_or l i d)) 1 0
+times_more test l i d lt = let one : i + 1 ≡ suc i = omega arith in ap (λ n. times test (take n l)) one ∙ times_next test l i d lt

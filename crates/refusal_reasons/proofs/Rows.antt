@@ -42,24 +42,24 @@ rows_told =
     (λ a s k l m. freemem_told (a 0) (a 1) s) ⨾
     (λ a s k l m. getstk_told (a 0) s) ⨾
     (λ a s k l m. freestk_told (a 0) (a 1) s) ⨾
-    (λ a s k l m. semcreate_told (signed (a 0)) s k) ⨾
+    (λ a s k l m. semcreate_told (a 0) s k) ⨾
     (λ a s k l m. semdelete_told (a 0) s) ⨾
-    (λ a s k l m. semreset_told (a 0) (signed (a 1)) s) ⨾
+    (λ a s k l m. semreset_told (a 0) (a 1) s) ⨾
     (λ a s k l m. semcount_told (a 0) s) ⨾
     (λ a s k l m. wait_told (a 0) s) ⨾
     (λ a s k l m. signal_told (a 0) s) ⨾
-    (λ a s k l m. signaln_told (a 0) (signed (a 1)) s) ⨾
+    (λ a s k l m. signaln_told (a 0) (a 1) s) ⨾
     (λ a s k l m. send_told (a 0) (a 1) s) ⨾
     (λ a s k l m. receive_told s) ⨾
     (λ a s k l m. recvclr_told s) ⨾
-    (λ a s k l m. recvtime_told (signed (a 0)) s) ⨾
-    (λ a s k l m. sleep_told (signed (a 0)) s) ⨾
-    (λ a s k l m. sleepms_told (signed (a 0)) s) ⨾
+    (λ a s k l m. recvtime_told (a 0) s) ⨾
+    (λ a s k l m. sleep_told (a 0) s) ⨾
+    (λ a s k l m. sleepms_told (a 0) s) ⨾
     (λ a s k l m. tells refl) ⨾
     (λ a s k l m. mkbufpool_told (a 0) (a 1) s k) ⨾
     (λ a s k l m. getbuf_told (a 0) s l) ⨾
     (λ a s k l m. freebuf_told (a 0) s) ⨾
-    (λ a s k l m. ptcreate_told (signed (a 0)) s k m) ⨾
+    (λ a s k l m. ptcreate_told (a 0) s k m) ⨾
     (λ a s k l m. ptdelete_told (a 0) (a 1) s) ⨾
     (λ a s k l m. ptreset_told (a 0) (a 1) s) ⨾
     (λ a s k l m. ptsend_told (a 0) (a 1) s) ⨾

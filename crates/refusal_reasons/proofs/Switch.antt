@@ -1,14 +1,15 @@
 -- Each call on a device answers -1 if and only if one of its causes holds.
-use Rattle.std.proofs.Common.{◌≡◌, ◌≢◌, ℕ, zero, suc, ◌==◌, Bool, true, false, not, cond, ◌&&◌, ◌||◌, List, [], ◌∷◌, length, refl, ap, Option, Some, None, ℤ, pos, negsuc}
+use Rattle.std.proofs.Common.{◌∙◌, ◌≡◌, ◌≢◌, ℕ, zero, suc, ◌==◌, Bool, true, false, not, cond, ◌&&◌, ◌||◌, List, [], ◌∷◌, length, refl, ap, Option, Some, None, ℤ, pos, negsuc, ◌++◌}
 use Rattle.std.specs.Prelude.{is_some, nat_le, nat_lt, unwrap_or}
 use Rattle.std.specs.List.{list_all}
 use Rattle.event_laws.proofs.Reply.Continued.{Never, put_byte_never, reads_never, take_char_never, writes_never}
-use Rattle.refusal_reasons.specs.Causes.{Cause, cause, is_negative, answers_minus_one}
-use Rattle.refusal_reasons.specs.Devices.{device_calls, does_offer, by_kind, open_by, open_causes, read_leaves_ram, transfer_causes, block_causes, read_causes, write_causes, control_causes}
+use Rattle.refusal_reasons.specs.Causes.{cause, is_negative, answers_minus_one, first_reason}
+use Rattle.refusal_reasons.specs.declared.reasons.Cause.{Cause}
+use Rattle.refusal_reasons.specs.Devices.{device_calls, switch_causes, does_offer, by_kind, open_by, open_causes, read_leaves_ram, transfer_causes, block_causes, read_causes, write_causes, control_causes}
 use Rattle.refusal_reasons.specs.Files.{name_causes, mode_causes, file_causes}
 use Rattle.refusal_reasons.specs.Names.{is_opened, direct_causes, mapped_causes, name_space_causes, mount_causes}
 use Rattle.refusal_reasons.specs.declared.reasons.Reason.TheVariants as reason
-use Rattle.refusal_reasons.proofs.Combined.{Tells, tells, by_cause, refused_unless, refused_unless_both, status_if}
+use Rattle.refusal_reasons.proofs.Combined.{Tells, tells, refused_unless, refused_unless_both, status_if}
 use Rattle.xinu_base.specs.declared.devices.Kind.{Kind}
 use Rattle.xinu_base.specs.declared.devices.Kind.TheVariants as kind
 use Rattle.xinu_base.specs.declared.devices.Op.{Op}
@@ -32,8 +33,8 @@ use Rattle.xinu_model.specs.Files.Syscalls.{asks_files}
 use Rattle.xinu_model.specs.Machine.{Xinu, Answer, Returns, Waits, Gone, Panics, Silent, CallResult, start, refused}
 use Rattle.xinu_model.specs.Memory.{bytes_from, in_ram}
 use Rattle.xinu_model.specs.Names.Calls.{names_of, mount, mount_rows, mount_texts}
-use Rattle.xinu_model.specs.Names.Constants.{NNAMES, NM_MAXLEN, NM_PRELEN, NM_REPLLEN}
-use Rattle.xinu_model.specs.Names.Mapping.{MappedName, first_row, map_name, replaced_by, replaced_times}
+use Rattle.xinu_model.specs.Names.Constants.{NNAMES, NM_PRELEN, NM_REPLLEN}
+use Rattle.xinu_model.specs.Names.Mapping.{MappedName, map_name}
 use Rattle.xinu_model.specs.Names.Mounting.{NameRow}
 use Rattle.xinu_model.specs.RawDisk.Calls.{awaits_disk, disk_of}
 use Rattle.xinu_model.specs.RawDisk.Constants.{RD_BLKSIZ, RD_CTL_SIZE}
@@ -79,6 +80,14 @@ device_told call dev does each s told = by_found (kind_of dev)
     by_found None = tells refl
     by_found (Some k) = tells (refused_unless reason.NotOffered (offers k call) (each k) s (does k s) (told k)).told
 
+-- a call for which no kind asks for anything of its own
+offered_told : (call : Op) (dev : ℕ) (x : CallResult) → Tells (device_calls call dev (λ k. [])) x → Tells (switch_causes call dev) x
+offered_told call dev x k = tells (k.told ∙ ap (λ l. is_some (first_reason (switch_causes call dev ++ l))) (nothing (kind_of dev)))
+  where
+    nothing : (found : Option Kind) → by_kind found (λ k. []) ≡ []
+    nothing None = refl
+    nothing (Some k) = refl
+
 -- a name, if its three parts hold, before the causes of what is asked then
 named_told : (a b c : Bool) (causes : List Cause) (found : Option FileCall) (s : Xinu) → Tells causes (asks_files found 0 s)
     → Tells (cause reason.EmptyName (not a) ∷ cause reason.NameTooLong (not b) ∷ cause reason.ZeroInName (not c) ∷ causes)
@@ -103,14 +112,6 @@ file_told name mode s =
     named_told (nat_lt 0 (length name)) (nat_le (length name) LF_NAME_LEN) (list_all (λ b. not (b == 0)) name) (mode_causes mode) _ s
     (mode_told (list_all is_mode_letter mode) (are_apart mode) (has_letter LF_MODE_O mode && has_letter LF_MODE_N mode) name _ s)
 
--- a name that no row begins isn't mapped
-unmapped : (rows : List NameRow) (name : List ℕ) → first_row name rows ≡ None → map_name rows name ≡ None
-unmapped rows name e = by_length (nat_le (length name) NM_MAXLEN)
-  where
-    by_length : (b : Bool) → replaced_times 40 rows (cond b (Some (record { device = 1; name = name })) None) ≡ None
-    by_length true = ap (λ o. replaced_times 39 rows (replaced_by o name)) e
-    by_length false = refl
-
 -- `open` of what a name is mapped to
 opened_told : (found : Option Kind) (name mode : List ℕ) (s : Xinu)
     → Tells (cause reason.NotOpened (not (is_opened found)) ∷ direct_causes found name mode) (on_kind op.Open found (open_direct name mode) s)
@@ -128,13 +129,7 @@ mapped_told (Some m) mode s = tells (opened_told (kind_of m.device) m.name mode 
 
 name_told : (name mode : List ℕ) (s : Xinu)
     → Tells (name_space_causes (names_of s) name mode) (open_mapped (map_name (names_of s) name) mode s)
-name_told name mode s =
-    by_cause reason.NoPrefix (not (is_some (first_row name (names_of s)))) _ _ (λ e. ap (λ o. answers_minus_one (open_mapped o mode s).answer) (unmapped (names_of s) name (no_row _ e)))
-    (λ _. mapped_told (map_name (names_of s) name) mode s)
-  where
-    no_row : (o : Option NameRow) → not (is_some o) ≡ true → o ≡ None
-    no_row None e = refl
-    no_row (Some row) e = absurd (cc)
+name_told name mode s = mapped_told (map_name (names_of s) name) mode s
 
 -- call 36
 pub open_told : (dev name mode : ℕ) (s : Xinu) → Tells (device_calls op.Open dev (open_causes name mode s)) (device_open dev name mode s)
@@ -142,7 +137,7 @@ open_told dev name mode s =
     device_told op.Open dev (open_texts name mode) (open_causes name mode s) s (λ k e. by_texts k e (text_at name s.memory) (text_at mode s.memory))
   where
     by_texts : (k : Kind) → offers k op.Open ≡ true → (n m : Option (List ℕ))
-        → Tells (cause reason.NoName (not (is_some n)) ∷ cause reason.NoMode (not (is_some m)) ∷ open_by k (unwrap_or n []) (unwrap_or m []) s) (open_with k n m s)
+        → Tells (cause reason.NoName (not (is_some n)) ∷ cause reason.NoMode (not (is_some m)) ∷ open_by k (names_of s) (unwrap_or n []) (unwrap_or m [])) (open_with k n m s)
     by_texts k e None m = tells refl
     by_texts k e (Some n) None = tells refl
     by_texts kind.Console e (Some n) (Some m) = tells refl
@@ -152,8 +147,8 @@ open_told dev name mode s =
     by_texts kind.File e (Some n) (Some m) = absurd (cc)
 
 -- call 37
-pub close_told : (dev : ℕ) (s : Xinu) → Tells (device_calls op.Close dev (λ k. [])) (device_close dev s)
-close_told dev s = device_told op.Close dev (close_as dev) (λ k. []) s each
+pub close_told : (dev : ℕ) (s : Xinu) → Tells (switch_causes op.Close dev) (device_close dev s)
+close_told dev s = offered_told op.Close dev (device_close dev s) (device_told op.Close dev (close_as dev) (λ k. []) s each)
   where
     each : (k : Kind) → offers k op.Close ≡ true → Tells [] (close_as dev k s)
     each kind.Console e = tells refl
@@ -227,8 +222,8 @@ write_told dev at n s = device_told op.Write dev (write_as dev at n) (write_caus
     each kind.File e = file_write_told (file_number dev) at (signed n) s
 
 -- call 40
-pub getc_told : (dev : ℕ) (s : Xinu) → Tells (device_calls op.Getc dev (λ k. [])) (device_getc dev s)
-getc_told dev s = device_told op.Getc dev (getc_as dev) (λ k. []) s each
+pub getc_told : (dev : ℕ) (s : Xinu) → Tells (switch_causes op.Getc dev) (device_getc dev s)
+getc_told dev s = offered_told op.Getc dev (device_getc dev s) (device_told op.Getc dev (getc_as dev) (λ k. []) s each)
   where
     each : (k : Kind) → offers k op.Getc ≡ true → Tells [] (getc_as dev k s)
     each kind.Console e = token_told TY_ISEM rest.TtyGet take_next s (λ u. never_told (take_next u) (take_char_never 0 not_end (console_of u).committed u))
@@ -238,8 +233,8 @@ getc_told dev s = device_told op.Getc dev (getc_as dev) (λ k. []) s each
     each kind.File e = tells refl
 
 -- call 41
-pub putc_told : (dev b : ℕ) (s : Xinu) → Tells (device_calls op.Putc dev (λ k. [])) (device_putc dev b s)
-putc_told dev b s = device_told op.Putc dev (putc_as dev b) (λ k. []) s each
+pub putc_told : (dev b : ℕ) (s : Xinu) → Tells (switch_causes op.Putc dev) (device_putc dev b s)
+putc_told dev b s = offered_told op.Putc dev (device_putc dev b s) (device_told op.Putc dev (putc_as dev b) (λ k. []) s each)
   where
     each : (k : Kind) → offers k op.Putc ≡ true → Tells [] (putc_as dev b k s)
     each kind.Console e =
@@ -251,8 +246,8 @@ putc_told dev b s = device_told op.Putc dev (putc_as dev b) (λ k. []) s each
     each kind.File e = tells refl
 
 -- call 42
-pub seek_told : (dev : ℕ) (n : ℤ) (s : Xinu) → Tells (device_calls op.Seek dev (λ k. [])) (device_seek dev n s)
-seek_told dev n s = device_told op.Seek dev (seek_as dev n) (λ k. []) s each
+pub seek_told : (dev : ℕ) (n : ℤ) (s : Xinu) → Tells (switch_causes op.Seek dev) (device_seek dev n s)
+seek_told dev n s = offered_told op.Seek dev (device_seek dev n s) (device_told op.Seek dev (seek_as dev n) (λ k. []) s each)
   where
     each : (k : Kind) → offers k op.Seek ≡ true → Tells [] (seek_as dev n k s)
     each kind.Console e = absurd (cc)
@@ -322,15 +317,17 @@ mount_told prefix replacement dev s =
     refused_unless reason.NoDevice (is_some (kind_of dev)) _ s _ (λ _. by_texts (text_at prefix s.memory) (text_at replacement s.memory))
   where
     by_tests : (a b c : Bool) (rows : List NameRow)
-        → Tells (cause reason.NoFreeRow (not a) ∷ cause reason.PrefixTooLong (not b) ∷ cause reason.ReplacementTooLong (not c) ∷ [])
+        → Tells (cause reason.PrefixTooLong (not b) ∷ cause reason.ReplacementTooLong (not c) ∷ cause reason.NoFreeRow (not a) ∷ [])
         (mount_rows (cond (a && (b && c)) (Some rows) None) s)
-    by_tests false b c rows = tells refl
-    by_tests true false c rows = tells refl
-    by_tests true true false rows = tells refl
     by_tests true true true rows = tells refl
+    by_tests true true false rows = tells refl
+    by_tests true false c rows = tells refl
+    by_tests false true true rows = tells refl
+    by_tests false true false rows = tells refl
+    by_tests false false c rows = tells refl
 
     by_texts : (p r : Option (List ℕ))
-        → Tells (cause reason.NoPrefixText (not (is_some p)) ∷ cause reason.NoReplacementText (not (is_some r)) ∷ cause reason.NoFreeRow (not (nat_lt (length (names_of s)) NNAMES)) ∷ cause reason.PrefixTooLong (not (nat_le (length (unwrap_or p [])) NM_PRELEN)) ∷ cause reason.ReplacementTooLong (not (nat_le (length (unwrap_or r [])) NM_REPLLEN)) ∷ [])
+        → Tells (cause reason.NoPrefixText (not (is_some p)) ∷ cause reason.NoReplacementText (not (is_some r)) ∷ cause reason.PrefixTooLong (not (nat_le (length (unwrap_or p [])) NM_PRELEN)) ∷ cause reason.ReplacementTooLong (not (nat_le (length (unwrap_or r [])) NM_REPLLEN)) ∷ cause reason.NoFreeRow (not (nat_lt (length (names_of s)) NNAMES)) ∷ [])
         (mount_texts p r dev s)
     by_texts None r = tells refl
     by_texts (Some p) None = tells refl

@@ -1,14 +1,10 @@
 -- The causes of a refusal, in order, and which answers are -1.
 use Rattle.std.specs.Prelude.{ℕ, zero, suc, ◌==◌, Bool, true, false, if◌then◌else◌, List, [], ◌∷◌, Option, None, Some, ℤ, pos, negsuc}
+use Rattle.refusal_reasons.specs.declared.reasons.Cause.{Cause}
 use Rattle.refusal_reasons.specs.declared.reasons.Reason.{Reason}
 use Rattle.refusal_reasons.specs.declared.reasons.Reason.TheVariants.{NoCall}
 use Rattle.xinu_model.specs.Machine.{Xinu, Answer, Returns, Waits, Gone, Panics, Silent}
 use Rattle.xinu_model.specs.Words.{signed}
-
--- A cause: whether it holds, and the reason that it gives.
-pub record Cause : Type 0 where
-  pub holds : Bool
-  pub reason : Reason
 
 -- this is the reason, if that holds
 abbrev pub cause : Reason → Bool → Cause

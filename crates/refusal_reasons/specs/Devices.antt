@@ -1,7 +1,8 @@
 -- Why the calls on devices are refused (book, chapters 14, 15, 18 and 19). Calls on files are judged again as they take effect.
-use Rattle.std.specs.Prelude.{ℕ, zero, suc, ◌==◌, Bool, false, not, ◌&&◌, List, [], ◌∷◌, Option, None, Some, is_some, ℤ, pos, negsuc}
+use Rattle.std.specs.Prelude.{ℕ, zero, suc, ◌==◌, Bool, false, not, ◌&&◌, List, [], ◌∷◌, ◌++◌, Option, None, Some, is_some, ℤ, pos, negsuc}
 use Rattle.std.specs.List.{list_any}
-use Rattle.refusal_reasons.specs.Causes.{Cause, cause, CauseRow, row, is_negative}
+use Rattle.refusal_reasons.specs.Causes.{cause, CauseRow, row, is_negative}
+use Rattle.refusal_reasons.specs.declared.reasons.Cause.{Cause}
 use Rattle.refusal_reasons.specs.Files.{name_causes}
 use Rattle.refusal_reasons.specs.Names.{direct_causes, has_no_text, mount_causes, name_space_causes, text_or_none}
 use Rattle.refusal_reasons.specs.declared.reasons.Reason.TheVariants.{NoDevice, NotOffered, NoFunction, NegativeBytes, OutsideRam, NoDiskBlock, NoName, NoMode}
@@ -15,6 +16,7 @@ use Rattle.xinu_model.specs.Files.Constants.{LF_CTL_DEL, LF_CTL_TRUNC, LF_CTL_SI
 use Rattle.xinu_model.specs.Machine.{Xinu}
 use Rattle.xinu_model.specs.Memory.{in_ram}
 use Rattle.xinu_model.specs.Names.Calls.{names_of}
+use Rattle.xinu_model.specs.Names.Mounting.{NameRow}
 use Rattle.xinu_model.specs.RawDisk.Calls.{disk_of}
 use Rattle.xinu_model.specs.RawDisk.Constants.{RD_BLKSIZ, RD_CTL_SIZE}
 use Rattle.xinu_model.specs.RawDisk.Requests.{has_block}
@@ -31,18 +33,21 @@ abbrev pub by_kind : Option Kind → (Kind → List Cause) → List Cause
 by_kind None each = []
 by_kind (Some k) each = each k
 
+-- there is no device, or it doesn't offer a call
+abbrev pub switch_causes : Op → ℕ → List Cause
+switch_causes call dev = cause NoDevice (not (is_some (kind_of dev))) ∷ cause NotOffered (not (does_offer call (kind_of dev))) ∷ []
+
 -- a call on a device: there has to be one, it has to offer the call, and then each kind asks for something of its own
 abbrev pub device_calls : Op → ℕ → (Kind → List Cause) → List Cause
-device_calls call dev each =
-    cause NoDevice (not (is_some (kind_of dev))) ∷ cause NotOffered (not (does_offer call (kind_of dev))) ∷ by_kind (kind_of dev) each
+device_calls call dev each = switch_causes call dev ++ by_kind (kind_of dev) each
 
 -- `open` with the texts at two addresses
-abbrev pub open_by : Kind → List ℕ → List ℕ → Xinu → List Cause
-open_by kind.NameSpace name mode s = name_space_causes (names_of s) name mode
-open_by k name mode s = direct_causes (Some k) name mode
+abbrev pub open_by : Kind → List NameRow → List ℕ → List ℕ → List Cause
+open_by kind.NameSpace rows name mode = name_space_causes rows name mode
+open_by k rows name mode = direct_causes (Some k) name mode
 
 abbrev pub open_causes : ℕ → ℕ → Xinu → Kind → List Cause
-open_causes name mode s k = cause NoName (has_no_text name s) ∷ cause NoMode (has_no_text mode s) ∷ open_by k (text_or_none name s) (text_or_none mode s) s
+open_causes name mode s k = cause NoName (has_no_text name s) ∷ cause NoMode (has_no_text mode s) ∷ open_by k (names_of s) (text_or_none name s) (text_or_none mode s)
 
 -- whether so many bytes from an address on leave RAM
 abbrev pub leaves_ram : ℕ → ℤ → Bool
@@ -94,12 +99,12 @@ control_causes f x s _ = []
 abbrev pub device_causes : List CauseRow
 device_causes =
     row 36 (λ a s. device_calls op.Open (a 0) (open_causes (a 1) (a 2) s)) ∷
-    row 37 (λ a s. device_calls op.Close (a 0) (λ k. [])) ∷
+    row 37 (λ a s. switch_causes op.Close (a 0)) ∷
     row 38 (λ a s. device_calls op.Read (a 0) (read_causes (a 1) (a 2) s)) ∷
     row 39 (λ a s. device_calls op.Write (a 0) (write_causes (a 1) (a 2) s)) ∷
-    row 40 (λ a s. device_calls op.Getc (a 0) (λ k. [])) ∷
-    row 41 (λ a s. device_calls op.Putc (a 0) (λ k. [])) ∷
-    row 42 (λ a s. device_calls op.Seek (a 0) (λ k. [])) ∷
+    row 40 (λ a s. switch_causes op.Getc (a 0)) ∷
+    row 41 (λ a s. switch_causes op.Putc (a 0)) ∷
+    row 42 (λ a s. switch_causes op.Seek (a 0)) ∷
     row 43 (λ a s. device_calls op.Control (a 0) (control_causes (a 1) (a 2) s)) ∷
     row 44 (λ a s. mount_causes (a 0) (a 1) (a 2) s) ∷
     []

@@ -1,7 +1,8 @@
 -- Why a file's name or a mode isn't one (book, chapter 19).
 use Rattle.std.specs.Prelude.{ℕ, ◌==◌, nat_le, nat_lt, not, ◌&&◌, List, [], ◌∷◌, ◌++◌, length}
 use Rattle.std.specs.List.{list_all}
-use Rattle.refusal_reasons.specs.Causes.{Cause, cause}
+use Rattle.refusal_reasons.specs.Causes.{cause}
+use Rattle.refusal_reasons.specs.declared.reasons.Cause.{Cause}
 use Rattle.refusal_reasons.specs.declared.reasons.Reason.TheVariants.{EmptyName, NameTooLong, ZeroInName, NoModeLetter, LetterTwice, OldAndNew}
 use Rattle.xinu_model.specs.Files.Constants.{LF_NAME_LEN}
 use Rattle.xinu_model.specs.Files.Modes.{LF_MODE_O, LF_MODE_N, is_mode_letter, has_letter, are_apart}

@@ -1,7 +1,8 @@
 -- Why the calls on ports are refused (book, chapter 11).
-use Rattle.std.specs.Prelude.{ℕ, nat_le, nat_lt, Bool, false, not, ◌&&◌, List, [], ◌∷◌, Option, None, Some, ℤ}
+use Rattle.std.specs.Prelude.{ℕ, nat_le, nat_lt, Bool, false, not, ◌&&◌, List, [], ◌∷◌, Option, None, Some}
 use Rattle.event_laws.specs.Replies.{first_of}
-use Rattle.refusal_reasons.specs.Causes.{Cause, cause, CauseRow, row, is_minus_one_message, is_negative}
+use Rattle.refusal_reasons.specs.Causes.{cause, CauseRow, row, is_minus_one_message, is_negative}
+use Rattle.refusal_reasons.specs.declared.reasons.Cause.{Cause}
 use Rattle.refusal_reasons.specs.Semaphores.{free_semaphores}
 use Rattle.refusal_reasons.specs.declared.reasons.Reason.TheVariants.{NegativeCount, NoFreePort, NoTwoSemaphores, NoPort, NoSuchDisposal, MessageIsMinusOne}
 use Rattle.xinu_model.specs.Machine.{Xinu}
@@ -18,10 +19,10 @@ free_ports ports = times (λ port. not (is_used port)) ports
 abbrev pub no_port : ℕ → Xinu → Cause
 no_port q s = cause NoPort (not (is_used (port_at s.parts.ports q)))
 
--- `ptcreate`: room for so many messages
-abbrev pub ptcreate_causes : ℤ → Xinu → List Cause
+-- `ptcreate`: a word, room for so many messages
+abbrev pub ptcreate_causes : ℕ → Xinu → List Cause
 ptcreate_causes room s =
-    cause NegativeCount (is_negative room)
+    cause NegativeCount (is_negative (signed room))
     ∷ cause NoFreePort (nat_lt (free_ports s.parts.ports) 1)
     ∷ cause NoTwoSemaphores (nat_lt (free_semaphores s.tables) 2)
     ∷ []
@@ -29,6 +30,10 @@ ptcreate_causes room s =
 -- `ptdelete` and `ptreset`: what is done with the messages of port q
 abbrev pub disposal_causes : ℕ → ℕ → Xinu → List Cause
 disposal_causes q how s = no_port q s ∷ cause NoSuchDisposal (not (nat_le how 1)) ∷ []
+
+-- `ptsend`
+abbrev pub ptsend_causes : ℕ → Xinu → List Cause
+ptsend_causes q s = no_port q s ∷ []
 
 -- whether a message can be received without waiting
 abbrev pub can_take : Option PortQueue → Tables → Bool
@@ -44,9 +49,9 @@ ptrecv_causes q s =
 -- the calls on ports
 abbrev pub port_causes : List CauseRow
 port_causes =
-    row 31 (λ a s. ptcreate_causes (signed (a 0)) s) ∷
+    row 31 (λ a s. ptcreate_causes (a 0) s) ∷
     row 32 (λ a s. disposal_causes (a 0) (a 1) s) ∷
     row 33 (λ a s. disposal_causes (a 0) (a 1) s) ∷
-    row 34 (λ a s. no_port (a 0) s ∷ []) ∷
+    row 34 (λ a s. ptsend_causes (a 0) s) ∷
     row 35 (λ a s. ptrecv_causes (a 0) s) ∷
     []

@@ -1,6 +1,7 @@
 -- Why the calls on processes are refused (book, chapters 4 to 6).
 use Rattle.std.specs.Prelude.{ℕ, ◌==◌, nat_lt, not, ◌&&◌, List, [], ◌∷◌, pos, int_lt}
-use Rattle.refusal_reasons.specs.Causes.{Cause, cause, CauseRow, row, is_minus_one}
+use Rattle.refusal_reasons.specs.Causes.{cause, CauseRow, row, is_minus_one}
+use Rattle.refusal_reasons.specs.declared.reasons.Cause.{Cause}
 use Rattle.refusal_reasons.specs.Memory.{no_block}
 use Rattle.refusal_reasons.specs.declared.reasons.Reason.TheVariants.{NoProcess, NullProcess, NotSuspended, NotReady, PriorityBelowOne, PriorityIsMinusOne, NameOutsideRam, NoFreeProcess}
 use Rattle.xinu_base.specs.declared.processes.Process.{Process}
@@ -24,12 +25,16 @@ no_process p s = cause NoProcess (is_free (state_at s.tables p))
 abbrev pub priority_told : ℕ → Xinu → Cause
 priority_told p s = cause PriorityIsMinusOne (is_minus_one (process_at s.tables p).priority)
 
+-- each number has a process
+abbrev pub no_free_process : Xinu → Cause
+no_free_process s = cause NoFreeProcess (nat_lt (free_processes s.tables) 1)
+
 -- `create`: a stack of this size, a priority, and the address of a name
 abbrev pub create_causes : ℕ → ℕ → ℕ → Xinu → List Cause
 create_causes size priority name s =
     cause PriorityBelowOne (int_lt (half priority) (pos 1))
     ∷ cause NameOutsideRam (not (in_ram name 16))
-    ∷ cause NoFreeProcess (nat_lt (free_processes s.tables) 1)
+    ∷ no_free_process s
     ∷ no_block (stack_size size) s
     ∷ []
 

@@ -1,6 +1,7 @@
 -- The reason of each call: the first of its row's causes that holds.
 use Rattle.std.specs.Prelude.{ℕ, List, ◌++◌, slice_index, Option}
-use Rattle.refusal_reasons.specs.Causes.{Cause, CauseRow, causes_in, first_reason}
+use Rattle.refusal_reasons.specs.Causes.{CauseRow, causes_in, first_reason}
+use Rattle.refusal_reasons.specs.declared.reasons.Cause.{Cause}
 use Rattle.refusal_reasons.specs.Clock.{clock_causes}
 use Rattle.refusal_reasons.specs.Devices.{device_causes}
 use Rattle.refusal_reasons.specs.Memory.{memory_causes}

@@ -1,6 +1,7 @@
 -- Why the calls on semaphores are refused (book, chapter 7).
-use Rattle.std.specs.Prelude.{ℕ, nat_lt, not, List, [], ◌∷◌, is_some, ℤ, ◌+ℤ◌, int_lt}
-use Rattle.refusal_reasons.specs.Causes.{Cause, cause, CauseRow, row, is_minus_one, is_negative}
+use Rattle.std.specs.Prelude.{ℕ, nat_lt, not, List, [], ◌∷◌, is_some, ◌+ℤ◌, int_lt}
+use Rattle.refusal_reasons.specs.Causes.{cause, CauseRow, row, is_minus_one, is_negative}
+use Rattle.refusal_reasons.specs.declared.reasons.Cause.{Cause}
 use Rattle.refusal_reasons.specs.declared.reasons.Reason.TheVariants.{NoSemaphore, KernelSemaphore, NoFreeSemaphore, NegativeCount, NegativeSignals, CountTooGreat, CountIsMinusOne}
 use Rattle.xinu_model.specs.Machine.{Xinu}
 use Rattle.xinu_model.specs.Semaphores.Counts.{most_tokens, count_of, is_images}
@@ -24,17 +25,17 @@ kernel_semaphore sem s = cause KernelSemaphore (not (is_images (semaphore_at s.t
 abbrev pub no_free_semaphore : Xinu → Cause
 no_free_semaphore s = cause NoFreeSemaphore (nat_lt (free_semaphores s.tables) 1)
 
--- `semcreate`
-abbrev pub semcreate_causes : ℤ → Xinu → List Cause
-semcreate_causes count s = cause NegativeCount (is_negative count) ∷ no_free_semaphore s ∷ []
+-- `semcreate`, with a word for its count
+abbrev pub semcreate_causes : ℕ → Xinu → List Cause
+semcreate_causes count s = cause NegativeCount (is_negative (signed count)) ∷ no_free_semaphore s ∷ []
 
 -- `semdelete` and `wait`
 abbrev pub semaphore_named : ℕ → Xinu → List Cause
 semaphore_named sem s = no_semaphore sem s ∷ kernel_semaphore sem s ∷ []
 
--- `semreset`
-abbrev pub semreset_causes : ℕ → ℤ → Xinu → List Cause
-semreset_causes sem count s = no_semaphore sem s ∷ kernel_semaphore sem s ∷ cause NegativeCount (is_negative count) ∷ []
+-- `semreset`, with a word for its count
+abbrev pub semreset_causes : ℕ → ℕ → Xinu → List Cause
+semreset_causes sem count s = no_semaphore sem s ∷ kernel_semaphore sem s ∷ cause NegativeCount (is_negative (signed count)) ∷ []
 
 -- `semcount`: the count is answered
 abbrev pub semcount_causes : ℕ → Xinu → List Cause
@@ -46,23 +47,23 @@ abbrev pub signal_causes : ℕ → Xinu → List Cause
 signal_causes sem s =
     no_semaphore sem s ∷ kernel_semaphore sem s ∷ cause CountTooGreat (not (int_lt (count_of (semaphore_at s.tables sem)) most_tokens)) ∷ []
 
--- `signaln`: n signals
-abbrev pub signaln_causes : ℕ → ℤ → Xinu → List Cause
+-- `signaln`, with a word for the number of signals
+abbrev pub signaln_causes : ℕ → ℕ → Xinu → List Cause
 signaln_causes sem n s =
     no_semaphore sem s
     ∷ kernel_semaphore sem s
-    ∷ cause NegativeSignals (is_negative n)
-    ∷ cause CountTooGreat (int_lt most_tokens (count_of (semaphore_at s.tables sem) +ℤ n))
+    ∷ cause NegativeSignals (is_negative (signed n))
+    ∷ cause CountTooGreat (int_lt most_tokens (count_of (semaphore_at s.tables sem) +ℤ signed n))
     ∷ []
 
 -- the calls on semaphores
 abbrev pub semaphore_causes : List CauseRow
 semaphore_causes =
-    row 14 (λ a s. semcreate_causes (signed (a 0)) s) ∷
+    row 14 (λ a s. semcreate_causes (a 0) s) ∷
     row 15 (λ a s. semaphore_named (a 0) s) ∷
-    row 16 (λ a s. semreset_causes (a 0) (signed (a 1)) s) ∷
+    row 16 (λ a s. semreset_causes (a 0) (a 1) s) ∷
     row 17 (λ a s. semcount_causes (a 0) s) ∷
     row 18 (λ a s. semaphore_named (a 0) s) ∷
     row 19 (λ a s. signal_causes (a 0) s) ∷
-    row 20 (λ a s. signaln_causes (a 0) (signed (a 1)) s) ∷
+    row 20 (λ a s. signaln_causes (a 0) (a 1) s) ∷
     []

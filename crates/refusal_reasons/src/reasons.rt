@@ -1,4 +1,7 @@
-//! The reasons of refusals.
+//! The reasons of refusals, and the first cause that holds.
+
+ghost use Rattle.std.specs.Prelude.{◌≡◌};
+ghost use Rattle.refusal_reasons.specs.Causes.{first_reason};
 
 /// Why a call is answered -1.
 #[derive(Clone, Copy)]
@@ -27,12 +30,12 @@ pub enum Reason {
     NoBlock,
     /// The address isn't a multiple of 8.
     NotAligned,
-    /// A stack doesn't end at the address.
+    /// No stack of so many bytes ends at the address.
     NotTop,
-    /// The bytes don't lie in the heap.
-    OutsideHeap,
     /// Some of the bytes are free.
     FreeAlready,
+    /// The bytes aren't taken from the heap.
+    NotTaken,
     /// No semaphore has the number.
     NoSemaphore,
     /// The semaphore is the kernel's: a device's, a pool's or a port's.
@@ -71,10 +74,10 @@ pub enum Reason {
     MeetsPool,
     /// No pool has the number.
     NoPool,
-    /// No pool has a buffer at the address.
-    NoBuffer,
-    /// The buffer is free.
+    /// The buffer at the address is free.
     BufferIsFree,
+    /// No process holds a buffer at the address.
+    NotHeld,
     /// No port in use has the number.
     NoPort,
     /// All 30 ports are in use.
@@ -109,9 +112,7 @@ pub enum Reason {
     LetterTwice,
     /// The mode asks for an old file and for a new one.
     OldAndNew,
-    /// No mounted prefix begins the name.
-    NoPrefix,
-    /// What the prefixes make of the name becomes too long, begins with no prefix, or is replaced too often.
+    /// No mounted prefix begins the name or what became of it, that became too long, or was replaced too often.
     NotMapped,
     /// What the name is mapped to can't be opened by a name.
     NotOpened,
@@ -125,4 +126,34 @@ pub enum Reason {
     PrefixTooLong,
     /// The replacement is longer than 31 bytes.
     ReplacementTooLong,
+}
+
+/// A cause: whether it holds, and the reason that it gives.
+#[derive(Clone, Copy)]
+pub struct Cause {
+    /// Whether it holds.
+    pub holds: bool,
+    /// The reason.
+    pub reason: Reason,
+}
+
+/// The reason of the first cause that holds, if one does.
+pub(crate) fn first_of(causes: &[Cause]) -> Option<Reason>
+    ensures first { result ≡ first_reason causes.now }
+{
+    for cause in causes {
+        if cause.holds {
+            return Some(cause.reason);
+        }
+    }
+    None
+}
+
+impl Cause {
+    /// A reason, if that holds.
+    pub(crate) fn new(reason: Reason, holds: bool) -> Cause
+        ensures cause { result ≡ record { holds = holds; reason = reason } }
+    {
+        Cause { holds, reason }
+    }
 }
