@@ -1,3 +1,5 @@
+pub mod Carried
+pub mod Compared
 pub mod KeptRegisters
 pub mod Passed
 pub mod Registers

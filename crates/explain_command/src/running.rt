@@ -7,10 +7,8 @@ ghost use Rattle.replayed_run.specs.Replayed.{HasInputs, IsReplayed, is_at_end};
 ghost use Rattle.xinu_model.specs.Text.{tables_of, text};
 
 use crate::happenings::happen;
-use crate::states::StateSeen;
 use crate::telling::Telling;
 use crate::unsent::tell_unsent;
-use crate::words::{Listed, NONE};
 use host_port::HostFault;
 use machine::Go;
 use memory_strays::Strays;
@@ -23,7 +21,11 @@ use xinu_base::{End, Event};
 ///
 /// # Errors
 /// Out of memory.
-pub(crate) fn tell(alloc: Global, replay: &mut Replay, listed: Listed) -> Result<String, HostFault>
+pub(crate) fn tell(
+    alloc: Global,
+    replay: &mut Replay,
+    listed: Option<(u64, u64)>,
+) -> Result<Vec<u8>, HostFault>
     requires begins { replay.old.taken ≡ 0 }
 {
     let mut telling = Telling::new(alloc, listed);
@@ -39,12 +41,11 @@ pub(crate) fn tell_at(
     alloc: Global,
     replay: &mut Replay,
     events: u32,
-) -> Result<String, HostFault> {
-    let mut telling = Telling::new(alloc, NONE);
+) -> Result<Vec<u8>, HostFault> {
+    let mut telling = Telling::new(alloc, None);
     telling.story.begin(tables(replay)?.lines());
     take_until(replay, &mut telling, events)?;
-    let state = state_seen(replay)?;
-    Ok(telling.state_text(replay, &state)?)
+    Ok(telling.state_text(replay, tables(replay)?.lines())?)
 }
 
 // Takes the next events until so many were taken, or the run ends.
@@ -59,26 +60,12 @@ fn take_until(replay: &mut Replay, telling: &mut Telling, events: u32) -> Result
     Ok(())
 }
 
-// The state after the events that were taken, as it is told.
-fn state_seen(replay: &Replay) -> Result<StateSeen, HostFault>
-    ensures taken { IfOk result (λ seen. seen.taken ≡ replay.now.taken) }
-    ensures tables { IfOk result (λ seen. seen.printed ≡ text (tables_of replay.now.state)) }
-    ensures runs { IsReplayed replay.now }
-{
-    replay.runs();
-    let printed = tables(replay)?;
-    Ok(StateSeen {
-        taken: replay.taken(),
-        printed,
-    })
-}
-
 // The same, with nothing told so far.
 fn tell_run(
     replay: &mut Replay,
     telling: &mut Telling,
     strays: &mut Strays,
-) -> Result<String, HostFault>
+) -> Result<Vec<u8>, HostFault>
     requires begins { replay.old.taken ≡ 0 }
     requires none { strays.old ≡ nothing_noted }
     ensures strays { IfOk result (λ _. HasNoted replay.old replay.new strays.new) }
