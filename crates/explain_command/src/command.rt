@@ -1,12 +1,12 @@
 //! The command: its arguments and files are read as `run` reads them, and the run is told.
 
-ghost use Rattle.std.specs.Prelude.{◌≡◌, ◌≤◌, IfErr, Some, codes, false, length, map};
+ghost use Rattle.std.specs.Prelude.{◌≡◌, ◌≤◌, IfErr, IfOk, Some, codes, false, length, map};
 ghost use Rattle.std.specs.String.{string_bytes};
 ghost use Rattle.command_line.specs.Reading.{option_value};
 ghost use Rattle.command_words.specs.ToolNames.{taken_words};
 ghost use Rattle.command_words.specs.Tools.{rows_of};
 ghost use Rattle.command_words.specs.Words.{words_of};
-ghost use Rattle.explain_command.specs.Stories.{IsUntold, Sends, TellsRun};
+ghost use Rattle.explain_command.specs.Stories.{IsTold, IsUntold, Sends, TellsOf, TellsRun};
 ghost use Rattle.explain_command.specs.Theorem.{Answers, Carries, Goes, Obeys, Tells};
 ghost use Rattle.explain_command.specs.Words.{asked_in};
 ghost use Rattle.run_inputs.specs.InputFaults.{have_fault};
@@ -110,27 +110,39 @@ fn send<'a, H: Host>(text: &[u8], host: &mut H) -> Result<u8, Cause<'a>>
     }
 }
 
-// The text that tells the run of these inputs.
+// The text that tells the run of these inputs, as the words ask.
 fn told(alloc: Global, inputs: Inputs, words: &Taken<'_>) -> Result<Vec<u8>, Refusal>
     requires some { 1 ≤ length inputs.images.items }
     requires few { length inputs.images.items ≤ 8 }
     requires good { have_fault (map (λ v. v.items) inputs.images.items) ≡ false }
     requires events { length inputs.schedule ≤ 1000000000 }
+    ensures told { IfOk result (λ text. IsTold (asked_in (taken_words words.now)) inputs text.items) }
     ensures untold { IfErr result (IsUntold inputs) }
 {
     match Replay::new(alloc, inputs) {
-        Ok(mut replay) => {
-            let text = match told_at(words) {
-                Some(events) => tell_at(alloc, &mut replay, events),
-                None => tell(alloc, &mut replay, steps_in(words)),
-            };
-            match text {
-                Ok(text) => Ok(text),
-                Err(HostFault::Failed) => Err(Refusal::HostFault),
-                Err(HostFault::NoMemory) => Err(Refusal::NoMemory),
-            }
-        }
+        Ok(mut replay) => match text_of(alloc, &mut replay, told_at(words), steps_in(words)) {
+            Ok(text) => Ok(text),
+            Err(HostFault::Failed) => Err(Refusal::HostFault),
+            Err(HostFault::NoMemory) => Err(Refusal::NoMemory),
+        },
         Err(fault) => Err(Refusal::from(fault)),
+    }
+}
+
+// The text that tells a run before its first event: the state after so many events, if that is asked for, or else the story.
+fn text_of(
+    alloc: Global,
+    replay: &mut Replay,
+    at: Option<u32>,
+    steps: Option<(u64, u64)>,
+) -> Result<Vec<u8>, HostFault>
+    requires begins { replay.old.taken ≡ 0 }
+    requires goes_on { replay.old.over ≡ false }
+    ensures tells { IfOk result (λ text. TellsOf at steps replay.old text.items) }
+{
+    match at {
+        Some(events) => tell_at(alloc, replay, events),
+        None => tell(alloc, replay, steps),
     }
 }
 

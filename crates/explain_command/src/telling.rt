@@ -1,7 +1,9 @@
 //! What is told of a run so far: the story, and the list of events.
 
-ghost use Rattle.std.specs.Prelude.{◌≡◌, ◌+◌, Some};
+ghost use Rattle.std.specs.Prelude.{◌≡◌, ◌++◌, ℕ, List, [], Some, None, IfOk};
+ghost use Rattle.explain_command.specs.Stories.{HasParts};
 ghost use Rattle.memory_strays.specs.Strays.{note, note_event};
+ghost use Rattle.run_story.specs.Endings.{after_line};
 
 use crate::callers::add_callers;
 use crate::ends::{push_after, push_end};
@@ -14,7 +16,7 @@ use crate::steps::add_step;
 use crate::straying::add_strays;
 use crate::traps::{add_trap, add_trap_place};
 use crate::whereabouts::add_whereabouts;
-use crate::words::is_listed;
+use crate::words::number_after;
 use memory_strays::Strays;
 use printed_runs::{PROCESSES, Text};
 use replayed_run::Replay;
@@ -30,21 +32,18 @@ pub(crate) struct Telling {
     pub(crate) story: Story,
     strayed: Text,
     listing: Text,
-    /// The events that are listed, by the numbers of the first and the last.
-    listed: Option<(u64, u64)>,
     /// What was seen ahead of the event in which the kernel panicked.
     panicked: Option<Sight>,
 }
 
 impl Telling {
     /// Of no event.
-    pub(crate) fn new(alloc: Global, listed: Option<(u64, u64)>) -> Telling {
+    pub(crate) fn new(alloc: Global) -> Telling {
         Telling {
             alloc,
             story: Story::new(alloc),
             strayed: Text::new(alloc),
             listing: Text::new(alloc),
-            listed,
             panicked: None,
         }
     }
@@ -63,11 +62,6 @@ impl Telling {
                 replay.files(),
             );
         }
-    }
-
-    /// Whether the event that comes after so many is listed.
-    pub(crate) fn lists(&self, taken: u32) -> bool {
-        is_listed(self.listed, number_after(taken))
     }
 
     /// Lists an event that was just taken, and the lines that it printed. By what was seen ahead of it: of a step the process, by its number and
@@ -111,15 +105,30 @@ impl Telling {
     ///
     /// # Errors
     /// Out of memory, also if it ran out before.
-    pub(crate) fn text(&self, replay: &Replay, end: End) -> Result<Vec<u8>, AllocError> {
+    pub(crate) fn text(
+        &self,
+        replay: &Replay,
+        end: End,
+        steps: Option<(u64, u64)>,
+    ) -> Result<Vec<u8>, AllocError>
+        ensures parts { IfOk result (λ text. HasParts steps replay.now end text.items) }
+    {
         let mut told = Vec::new(self.alloc);
-        if self.listed.is_some() {
-            told.extend_from_slice(self.listing.as_str().as_bytes())?;
-        }
+        told.extend_from_slice(self.list_asked(steps).as_bytes())?;
         push_end(&mut told, replay, end, self.panicked)?;
         let rest = self.rest(replay)?;
         told.extend_from_slice(rest.as_bytes())?;
         Ok(told)
+    }
+
+    // The list, or nothing if none is asked for.
+    fn list_asked(&self, steps: Option<(u64, u64)>) -> &str
+        ensures unlisted { steps ≡ None → result.now ≡ [] }
+    {
+        match steps {
+            Some(_) => self.listing.as_str(),
+            None => "",
+        }
     }
 
     // What is told after the first line.
@@ -137,7 +146,9 @@ impl Telling {
     ///
     /// # Errors
     /// Out of memory, also if it ran out before.
-    pub(crate) fn state_text(&self, replay: &Replay, tables: &str) -> Result<Vec<u8>, AllocError> {
+    pub(crate) fn state_text(&self, replay: &Replay, tables: &str) -> Result<Vec<u8>, AllocError>
+        ensures parts { IfOk result (λ text. (rest : List ℕ) × (text.items ≡ after_line replay.now.taken replay.now.state.tables.ticks ++ rest)) }
+    {
         let mut told = Vec::new(self.alloc);
         push_after(&mut told, replay)?;
         let rest = self.state_rest(replay, tables)?;
@@ -182,11 +193,4 @@ fn note_step(replay: &Replay, strays: &mut Strays)
     ensures notes { strays.new ≡ note replay.now.taken replay.now.state strays.old }
 {
     strays.note(replay.state(), replay.taken());
-}
-
-// The number of the event that comes after so many, counted from 1.
-fn number_after(taken: u32) -> u64
-    ensures number { result ≡ taken + 1 }
-{
-    taken as u64 + 1
 }

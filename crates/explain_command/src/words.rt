@@ -1,6 +1,6 @@
 //! What is told of a run: which events are listed, or after how many of them the state.
 
-ghost use Rattle.std.specs.Prelude.{◌≡◌, option_map};
+ghost use Rattle.std.specs.Prelude.{◌≡◌, ◌+◌};
 ghost use Rattle.command_words.specs.ToolNames.{taken_words};
 ghost use Rattle.explain_command.specs.Words as specs;
 ghost use Rattle.explain_command.specs.Words.{asked_in};
@@ -35,10 +35,17 @@ fn small(number: u64) -> Option<u32>
     }
 }
 
-/// Whether an event is among those that are listed, by its number.
-pub(crate) fn is_listed(steps: Option<(u64, u64)>, number: u64) -> bool {
+/// Whether the event that comes after so many is among those that are listed.
+pub(crate) fn is_listed(steps: Option<(u64, u64)>, taken: u32) -> bool {
     match steps {
-        Some((first, last)) => first <= number && number <= last,
+        Some((first, last)) => first <= number_after(taken) && number_after(taken) <= last,
         None => false,
     }
+}
+
+/// The number of the event that comes after so many, counted from 1.
+pub(crate) fn number_after(taken: u32) -> u64
+    ensures number { result ≡ taken + 1 }
+{
+    taken as u64 + 1
 }
