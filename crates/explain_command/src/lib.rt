@@ -33,6 +33,7 @@ mod sights;
 mod states;
 mod steps;
 mod straying;
+mod stuck;
 mod telling;
 mod traces;
 mod traps;

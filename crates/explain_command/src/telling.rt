@@ -14,6 +14,7 @@ use crate::sights::Sight;
 use crate::states::{add_lists, add_process, add_stack};
 use crate::steps::add_step;
 use crate::straying::add_strays;
+use crate::stuck::is_stuck;
 use crate::traps::{add_trap, add_trap_place};
 use crate::whereabouts::add_whereabouts;
 use crate::words::number_after;
@@ -138,6 +139,9 @@ impl Telling {
         self.story.tell_traps(&mut text);
         text.add(&self.strayed);
         self.add_left(&mut text, replay);
+        if is_stuck(replay) {
+            text.put("Nobody can go on: each waits for another process.\n");
+        }
         self.story.tell_rest(&mut text);
         text.whole()
     }

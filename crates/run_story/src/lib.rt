@@ -14,7 +14,7 @@
 //! | [`push_state_head`] | `after`: appends the line before what is told of a state (`after_line` there) |
 //! | [`Story::tell_traps`] | tells the traps |
 //! | [`Story::is_left`], [`Story::tell_left`] | whether a process is left, and what it does |
-//! | [`Story::tell_rest`] | tells whether they can go on, and what the console showed |
+//! | [`Story::tell_rest`] | tells who waits in a circle, and what the console showed |
 //! | [`Story::add_who`] | the number and the name of a process |
 //!
 //! What calls and replies say of semaphores is kept as `printed_runs` defines it: `knows` of [`Story::new`] and [`Story::event`]. The other calls

@@ -7,7 +7,7 @@ ghost use Rattle.run_story.specs.Said.{said_by};
 
 use crate::circles::add_circles;
 use crate::console::Stream;
-use crate::left::{add_left, is_stuck};
+use crate::left::add_left;
 use crate::lives::Lives;
 use crate::traps::add_trap;
 use printed_runs::{Reader, Shown, Text};
@@ -134,11 +134,8 @@ impl Story {
         add_left(text, &self.lives, &self.reader, process, self.ticks);
     }
 
-    /// Tells whether those who are left can go on, and what the console showed.
+    /// Tells who waits in a circle, and what the console showed.
     pub fn tell_rest(&self, text: &mut Text) {
-        if is_stuck(&self.lives) {
-            text.put("Nobody can go on: each waits for another process.\n");
-        }
         add_circles(text, &self.lives, &self.reader);
         self.sent.tell(text, "The console sent:\n");
         self.add_unsent(text);
