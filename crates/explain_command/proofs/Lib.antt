@@ -1,3 +1,6 @@
+pub mod Carried
+pub mod Compared
+pub mod Ended
 pub mod KeptRegisters
 pub mod Passed
 pub mod Registers

@@ -9,7 +9,7 @@ use Rattle.xinu_base.specs.declared.events.Event.{Event}
 use Rattle.xinu_model.specs.Machine.{Xinu}
 
 -- the events stay, and one more is taken
-next_taken : (old new : Replayed) → TakesNext old new → new.taken ≡ suc old.taken
+pub next_taken : (old new : Replayed) → TakesNext old new → new.taken ≡ suc old.taken
 next_taken old new (inl (printed, t)) = ap (λ (r : Replayed). r.taken) t.changes ∙ (omega arith)
 next_taken old new (inr t) = ap (λ (r : Replayed). r.taken) t.changes ∙ (omega arith)
 

@@ -1,7 +1,9 @@
 //! An event that is taken, with what was seen ahead of it and what it changed.
 
 ghost use Rattle.std.specs.Prelude.{◌≡◌, ◌<◌, false, IfOk, Some};
+ghost use Rattle.explain_command.specs.Ends.{EndsAs};
 ghost use Rattle.explain_command.specs.Happenings.{IsShown};
+ghost use Rattle.machine.specs.RunEnds.{end_of_go};
 ghost use Rattle.replayed_run.specs.Progress.{TakesEvent};
 ghost use Rattle.replayed_run.specs.Replayed.{HasInputs, is_at_end};
 
@@ -31,6 +33,7 @@ pub(crate) fn happen(replay: &mut Replay) -> Result<Happening, HostFault>
     ensures takes { IfOk result (λ shown. TakesEvent replay.old replay.new (Some shown.taken.printed)) }
     ensures further { IfOk result (λ _. replay.old.taken < replay.new.taken) }
     ensures inputs { HasInputs replay.old.disks replay.old.files replay.old.events replay.new }
+    ensures ends { IfOk result (λ shown. EndsAs replay.new (end_of_go shown.taken.go)) }
 {
     let seen = look(replay);
     let taken = take(replay)?;
@@ -48,7 +51,9 @@ fn take(replay: &mut Replay) -> Result<Taken, HostFault>
     ensures takes { IfOk result (λ taken. TakesEvent replay.old replay.new (Some taken.printed)) }
     ensures further { IfOk result (λ _. replay.old.taken < replay.new.taken) }
     ensures inputs { HasInputs replay.old.disks replay.old.files replay.old.events replay.new }
+    ensures ends { IfOk result (λ taken. EndsAs replay.new (end_of_go taken.go)) }
 {
+    replay.runs();
     match replay.take() {
         Ok(Some(taken)) => Ok(taken),
         Ok(None) => unreachable!(),

@@ -5,9 +5,14 @@
 //! words. Else the run is taken through its events, and the text says how it ended, which traps there were and where,
 //! which processes are left and what they wait for, and what the console showed.
 //!
-//! | Call | What it does |
+//! | Call | Promise |
 //! |---|---|
-//! | [`explain`] | tells the run that the arguments ask for, or refuses as `run` does, and answers the exit status |
+//! | [`explain`] | `answers`: the command is carried out as its arguments ask, and its end is told by a status (`Answers` in `specs/Theorem.antt`) |
+//!
+//! With `--trace` the status is 0 if and only if the text is the transcript of a run of the inputs, and 10 if and only if it goes wrong; then
+//! exactly the line of the mistake was sent, as `trace_report` defines it. Without it the text tells the run of the inputs: after the list of
+//! events, which is empty unless one is asked for, its line has the end, the number of events and the tick of the run through the schedule
+//! (`HasEnded` and `HasParts`). The host's failures are status 3, and running out of memory, status 7, is free.
 //!
 //! The run is a `Replay`. What is shown of an event was seen in the state ahead of it, and what it changed is what the state after it has
 //! otherwise: `shown` of `happen` in `happenings.rt` says so, and traps and the list are told from what it answers. `line` of `register_line`,
@@ -18,6 +23,7 @@
 mod callers;
 mod changes;
 mod command;
+mod ends;
 mod happenings;
 mod listing;
 mod places;
@@ -27,6 +33,7 @@ mod sights;
 mod states;
 mod steps;
 mod straying;
+mod stuck;
 mod telling;
 mod traces;
 mod traps;

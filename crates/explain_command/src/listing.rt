@@ -1,24 +1,8 @@
-//! The list of events: what each step executed, and what it changed.
+//! The list of events: what each step changed.
 
 use crate::changes::Changes;
 use printed_runs::Text;
 use rv_disasm::register_name;
-use xinu_base::Event;
-
-/// The name of an event, as a schedule has it.
-pub(crate) fn name_of(event: Event) -> &'static str {
-    match event {
-        Event::Step => "step",
-        Event::Tick => "tick",
-        Event::Key(_) => "type",
-        Event::Tx => "tx",
-        Event::Disk0 => "disk0",
-        Event::Fail0 => "fail0",
-        Event::Disk1 => "disk1",
-        Event::Fail1 => "fail1",
-        Event::Dump => "dump",
-    }
-}
 
 /// Adds what a step changed.
 pub(crate) fn add_changes(text: &mut Text, changes: &Changes) {

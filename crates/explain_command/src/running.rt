@@ -1,16 +1,18 @@
 //! The run that is told: its events are taken, and what comes of each is told.
 
-ghost use Rattle.std.specs.Prelude.{◌≡◌, ◌<◌, false, IfOk};
+ghost use Rattle.std.specs.Prelude.{◌≡◌, ◌<◌, ◌≤◌, ◌==◌, ◌||◌, false, true, IfOk, OnOk};
+ghost use Rattle.explain_command.specs.Ends.{EndsAs, HasEnded};
 ghost use Rattle.explain_command.specs.Passing.{HasNoted, TakesNext};
+ghost use Rattle.explain_command.specs.Stories.{IsStateText, IsStory};
+ghost use Rattle.machine.specs.RunEnds.{end_of_go};
 ghost use Rattle.memory_strays.specs.Strays.{nothing_noted};
-ghost use Rattle.replayed_run.specs.Replayed.{HasInputs, IsReplayed, is_at_end};
+ghost use Rattle.replayed_run.specs.Replayed.{HasInputs, is_at_end};
 ghost use Rattle.xinu_model.specs.Text.{tables_of, text};
 
 use crate::happenings::happen;
-use crate::states::StateSeen;
 use crate::telling::Telling;
 use crate::unsent::tell_unsent;
-use crate::words::{Listed, NONE};
+use crate::words::is_listed;
 use host_port::HostFault;
 use machine::Go;
 use memory_strays::Strays;
@@ -23,54 +25,49 @@ use xinu_base::{End, Event};
 ///
 /// # Errors
 /// Out of memory.
-pub(crate) fn tell(alloc: Global, replay: &mut Replay, listed: Listed) -> Result<String, HostFault>
+pub(crate) fn tell(
+    alloc: Global,
+    replay: &mut Replay,
+    steps: Option<(u64, u64)>,
+) -> Result<Vec<u8>, HostFault>
     requires begins { replay.old.taken ≡ 0 }
+    requires goes_on { replay.old.over ≡ false }
+    ensures tells { IfOk result (λ text. IsStory steps replay.old text.items) }
 {
-    let mut telling = Telling::new(alloc, listed);
+    let mut telling = Telling::new(alloc);
     let mut strays = Strays::new(alloc)?;
-    tell_run(replay, &mut telling, &mut strays)
+    tell_run(replay, &mut telling, &mut strays, steps)
 }
 
 /// The text that tells the state after so many events, or after all if the run ends earlier.
 ///
 /// # Errors
 /// Out of memory.
-pub(crate) fn tell_at(
-    alloc: Global,
-    replay: &mut Replay,
-    events: u32,
-) -> Result<String, HostFault> {
-    let mut telling = Telling::new(alloc, NONE);
+pub(crate) fn tell_at(alloc: Global, replay: &mut Replay, events: u32) -> Result<Vec<u8>, HostFault>
+    requires begins { replay.old.taken ≡ 0 }
+    ensures tells { IfOk result (λ text. IsStateText events replay.old text.items) }
+{
+    let mut telling = Telling::new(alloc);
     telling.story.begin(tables(replay)?.lines());
     take_until(replay, &mut telling, events)?;
-    let state = state_seen(replay)?;
-    Ok(telling.state_text(replay, &state)?)
+    replay.runs();
+    Ok(telling.state_text(replay, tables(replay)?.lines())?)
 }
 
 // Takes the next events until so many were taken, or the run ends.
 #[inline(never)]
-fn take_until(replay: &mut Replay, telling: &mut Telling, events: u32) -> Result<(), HostFault> {
+fn take_until(replay: &mut Replay, telling: &mut Telling, events: u32) -> Result<(), HostFault>
+    requires few { replay.old.taken ≤ events }
+    ensures inputs { OnOk result (HasInputs replay.old.disks replay.old.files replay.old.events replay.new) }
+    ensures reached { OnOk result ((replay.new.taken == events || is_at_end replay.new) ≡ true) }
+{
     while let Some(event) = replay.next() {
         if replay.taken() >= events {
             return Ok(());
         }
-        take_event(replay, event, telling)?;
+        take_event(replay, event, telling, None)?;
     }
     Ok(())
-}
-
-// The state after the events that were taken, as it is told.
-fn state_seen(replay: &Replay) -> Result<StateSeen, HostFault>
-    ensures taken { IfOk result (λ seen. seen.taken ≡ replay.now.taken) }
-    ensures tables { IfOk result (λ seen. seen.printed ≡ text (tables_of replay.now.state)) }
-    ensures runs { IsReplayed replay.now }
-{
-    replay.runs();
-    let printed = tables(replay)?;
-    Ok(StateSeen {
-        taken: replay.taken(),
-        printed,
-    })
 }
 
 // The same, with nothing told so far.
@@ -78,15 +75,18 @@ fn tell_run(
     replay: &mut Replay,
     telling: &mut Telling,
     strays: &mut Strays,
-) -> Result<String, HostFault>
+    steps: Option<(u64, u64)>,
+) -> Result<Vec<u8>, HostFault>
     requires begins { replay.old.taken ≡ 0 }
+    requires goes_on { replay.old.over ≡ false }
     requires none { strays.old ≡ nothing_noted }
     ensures strays { IfOk result (λ _. HasNoted replay.old replay.new strays.new) }
+    ensures tells { IfOk result (λ text. IsStory steps replay.old text.items) }
 {
     telling.story.begin(tables(replay)?.lines());
-    let end = take_events(replay, telling, strays)?;
+    let end = take_events(replay, telling, strays, steps)?;
     tell_unsent(&mut telling.story, replay.state())?;
-    Ok(telling.text(replay, end)?)
+    Ok(telling.text(replay, end, steps)?)
 }
 
 // Takes the events until the run ends.
@@ -95,30 +95,41 @@ fn take_events(
     replay: &mut Replay,
     telling: &mut Telling,
     strays: &mut Strays,
+    steps: Option<(u64, u64)>,
 ) -> Result<End, HostFault>
     requires begins { replay.old.taken ≡ 0 }
+    requires goes_on { replay.old.over ≡ false }
     requires none { strays.old ≡ nothing_noted }
     ensures strays { IfOk result (λ _. HasNoted replay.old replay.new strays.new) }
+    ensures inputs { IfOk result (λ _. HasInputs replay.old.disks replay.old.files replay.old.events replay.new) }
+    ensures ended { IfOk result (λ end. HasEnded replay.new end) }
 {
     while let Some(event) = replay.next() {
         telling.note(event, replay, strays);
-        match take_event(replay, event, telling)? {
+        match take_event(replay, event, telling, steps)? {
             Go::Goes => {}
             Go::Done => return Ok(End::Done),
             Go::Panic => return Ok(End::Panic),
         }
     }
+    replay.runs();
     Ok(End::Schedule)
 }
 
 // Takes the event that comes next, and tells what came of it: nothing of a step that prints nothing, unless it is listed.
-fn take_event(replay: &mut Replay, event: Event, telling: &mut Telling) -> Result<Go, HostFault>
+fn take_event(
+    replay: &mut Replay,
+    event: Event,
+    telling: &mut Telling,
+    steps: Option<(u64, u64)>,
+) -> Result<Go, HostFault>
     requires goes_on { is_at_end replay.old ≡ false }
     ensures takes { IfOk result (λ _. TakesNext replay.old replay.new) }
     ensures further { IfOk result (λ _. replay.old.taken < replay.new.taken) }
     ensures inputs { HasInputs replay.old.disks replay.old.files replay.old.events replay.new }
+    ensures ends { IfOk result (λ go. EndsAs replay.new (end_of_go go)) }
 {
-    let is_listed = telling.lists(replay.taken());
+    let is_listed = is_listed(steps, replay.taken());
     if !is_listed && replay.take_steps(1) == 1 {
         telling.story.quiet(1);
         return Ok(Go::Goes);

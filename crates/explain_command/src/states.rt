@@ -2,31 +2,8 @@
 
 use machine::KernelState;
 use printed_runs::{Text, number_of};
-use replayed_run::Printed;
 use run_story::Story;
 use xinu_base::Pid;
-
-/// What is seen of a state: how many events led to it, and its tables as lines.
-#[derive(Drop)]
-pub(crate) struct StateSeen {
-    /// How many events were taken.
-    pub(crate) taken: u32,
-    /// The lines of its tables.
-    pub(crate) printed: Printed,
-}
-
-/// Adds the tick of a state, which ends the first line.
-pub(crate) fn add_tick(text: &mut Text, tables: &str) {
-    for line in tables.lines() {
-        if let Some(rest) = line.strip_prefix("now ") {
-            text.numbered(
-                ", at tick ",
-                number_of(rest.split_whitespace().next()) as u64,
-            );
-        }
-    }
-    text.put(":\n");
-}
 
 /// Adds the priority of a process, and its message if it has one, on a line that the depth of its stack ends.
 pub(crate) fn add_process(text: &mut Text, tables: &str, process: usize) {

@@ -1,25 +1,29 @@
 //! What is told of a run so far: the story, and the list of events.
 
-ghost use Rattle.std.specs.Prelude.{◌≡◌, ◌+◌, Some};
+ghost use Rattle.std.specs.Prelude.{◌≡◌, ◌++◌, ℕ, List, [], Some, None, IfOk};
+ghost use Rattle.explain_command.specs.Stories.{HasParts};
 ghost use Rattle.memory_strays.specs.Strays.{note, note_event};
+ghost use Rattle.run_story.specs.Endings.{after_line};
 
 use crate::callers::add_callers;
+use crate::ends::{push_after, push_end};
 use crate::happenings::Happening;
-use crate::listing::{add_changes, name_of};
-use crate::places::shown;
+use crate::listing::add_changes;
 use crate::reasons::add_reason;
 use crate::sights::Sight;
-use crate::states::{StateSeen, add_lists, add_process, add_stack, add_tick};
-use crate::steps::{add_step, call_line};
+use crate::states::{add_lists, add_process, add_stack};
+use crate::steps::add_step;
 use crate::straying::add_strays;
+use crate::stuck::is_stuck;
 use crate::traps::{add_trap, add_trap_place};
 use crate::whereabouts::add_whereabouts;
-use crate::words::Listed;
+use crate::words::number_after;
 use memory_strays::Strays;
 use printed_runs::{PROCESSES, Text};
 use replayed_run::Replay;
 use run_story::Story;
 use std::alloc::{AllocError, Global};
+use trace_report::event_name;
 use xinu_base::{End, Event, Pid};
 
 /// What is told so far.
@@ -29,18 +33,19 @@ pub(crate) struct Telling {
     pub(crate) story: Story,
     strayed: Text,
     listing: Text,
-    listed: Listed,
+    /// What was seen ahead of the event in which the kernel panicked.
+    panicked: Option<Sight>,
 }
 
 impl Telling {
     /// Of no event.
-    pub(crate) fn new(alloc: Global, listed: Listed) -> Telling {
+    pub(crate) fn new(alloc: Global) -> Telling {
         Telling {
             alloc,
             story: Story::new(alloc),
             strayed: Text::new(alloc),
             listing: Text::new(alloc),
-            listed,
+            panicked: None,
         }
     }
 
@@ -60,11 +65,6 @@ impl Telling {
         }
     }
 
-    /// Whether the event that comes after so many is listed.
-    pub(crate) fn lists(&self, taken: u32) -> bool {
-        self.listed.has(number_after(taken))
-    }
-
     /// Lists an event that was just taken, and the lines that it printed. By what was seen ahead of it: of a step the process, by its number and
     /// name, what it did and what that changed; of another event its name.
     pub(crate) fn list(&mut self, event: Event, shown: &Happening, files: &[Vec<u8>]) {
@@ -77,7 +77,7 @@ impl Telling {
             add_step(text, seen, files);
             add_changes(text, &shown.changes);
         } else {
-            text.put(name_of(event));
+            text.put(event_name(event));
         }
         text.put("\n");
         for line in shown.taken.lines().lines() {
@@ -97,50 +97,82 @@ impl Telling {
         self.story.detail(&text);
     }
 
-    /// Tells in which call the kernel panicked in the last event.
+    /// The kernel panicked in the last event, ahead of which this was seen.
     pub(crate) fn panic(&mut self, seen: &Sight) {
-        let line = call_line(seen);
-        self.story.panic(shown(line.bytes()).trim_end());
+        self.panicked = Some(*seen);
     }
 
-    /// The list, and the story after it, if the run ended so: of who is left also where it is.
+    /// The list, if one is asked for, and the story after it, if the run ended so: of who is left also where it is.
     ///
     /// # Errors
     /// Out of memory, also if it ran out before.
-    pub(crate) fn text(&self, replay: &Replay, end: End) -> Result<String, AllocError> {
+    pub(crate) fn text(
+        &self,
+        replay: &Replay,
+        end: End,
+        steps: Option<(u64, u64)>,
+    ) -> Result<Vec<u8>, AllocError>
+        ensures parts { IfOk result (λ text. HasParts steps replay.now end text.items) }
+    {
+        let mut told = Vec::new(self.alloc);
+        told.extend_from_slice(self.list_asked(steps).as_bytes())?;
+        push_end(&mut told, replay, end, self.panicked)?;
+        let rest = self.rest(replay)?;
+        told.extend_from_slice(rest.as_bytes())?;
+        Ok(told)
+    }
+
+    // The list, or nothing if none is asked for.
+    fn list_asked(&self, steps: Option<(u64, u64)>) -> &str
+        ensures unlisted { steps ≡ None → result.now ≡ [] }
+    {
+        match steps {
+            Some(_) => self.listing.as_str(),
+            None => "",
+        }
+    }
+
+    // What is told after the first line.
+    fn rest(&self, replay: &Replay) -> Result<String, AllocError> {
         let mut text = Text::new(self.alloc);
-        text.add(&self.listing);
-        self.story.tell_end(&mut text, end);
+        text.note(self.listing.is_whole());
+        self.story.tell_traps(&mut text);
         text.add(&self.strayed);
         self.add_left(&mut text, replay);
+        if is_stuck(replay) {
+            text.put("Nobody can go on: each waits for another process.\n");
+        }
         self.story.tell_rest(&mut text);
         text.whole()
     }
 
-    /// The state after some events: of each process what it does, and where it is, and the lists.
+    /// The state after the events that were taken: of each process what it does, and where it is, and the lists.
     ///
     /// # Errors
     /// Out of memory, also if it ran out before.
-    pub(crate) fn state_text(
-        &self,
-        replay: &Replay,
-        state: &StateSeen,
-    ) -> Result<String, AllocError> {
+    pub(crate) fn state_text(&self, replay: &Replay, tables: &str) -> Result<Vec<u8>, AllocError>
+        ensures parts { IfOk result (λ text. (rest : List ℕ) × (text.items ≡ after_line replay.now.taken replay.now.state.tables.ticks ++ rest)) }
+    {
+        let mut told = Vec::new(self.alloc);
+        push_after(&mut told, replay)?;
+        let rest = self.state_rest(replay, tables)?;
+        told.extend_from_slice(rest.as_bytes())?;
+        Ok(told)
+    }
+
+    // What is told of a state after the first line.
+    fn state_rest(&self, replay: &Replay, tables: &str) -> Result<String, AllocError> {
         let mut text = Text::new(self.alloc);
-        let lines = state.printed.lines();
-        text.numbered("After ", state.taken as u64);
-        text.put(" events");
-        add_tick(&mut text, lines);
         for number in 1..PROCESSES {
             if self.story.is_left(number) {
                 self.story.tell_left(&mut text, number);
                 let process = Pid::at(number);
                 add_whereabouts(&mut text, replay, process);
-                add_process(&mut text, lines, number);
+                add_process(&mut text, tables, number);
                 add_stack(&mut text, replay.state(), process);
             }
         }
-        add_lists(&mut text, &self.story, lines);
+        add_lists(&mut text, &self.story, tables);
         text.whole()
     }
 
@@ -165,11 +197,4 @@ fn note_step(replay: &Replay, strays: &mut Strays)
     ensures notes { strays.new ≡ note replay.now.taken replay.now.state strays.old }
 {
     strays.note(replay.state(), replay.taken());
-}
-
-// The number of the event that comes after so many, counted from 1.
-fn number_after(taken: u32) -> u64
-    ensures number { result ≡ taken + 1 }
-{
-    taken as u64 + 1
 }

@@ -1,23 +1,19 @@
 //! A text that should be the transcript of a run: whether it is one, or where it goes wrong.
 
-ghost use Rattle.std.specs.Prelude.{◌≡◌, ◌≤◌, false, IfOk, length, map};
-ghost use Rattle.explain_command.specs.Traces.{FindsIn};
+ghost use Rattle.std.specs.Prelude.{◌≡◌, ◌≤◌, false, IfErr, IfOk, length, map};
+ghost use Rattle.explain_command.specs.Traces as specs;
+ghost use Rattle.explain_command.specs.Traces.{Compares, ComparesText, FindsIn, IsUnstarted, Reports};
 ghost use Rattle.given_disks.specs.Disks.{disks_of};
 ghost use Rattle.run_inputs.specs.InputFaults.{have_fault};
 
-use crate::listing::name_of;
 use host_port::{Channel, Host, HostFault};
-use printed_runs::Text;
 use run_inputs::{Cause, Inputs, Refusal, images_of};
 use std::alloc::Global;
-use trace_places::{Mistake, Moment, NoStart, find_mistake};
-use transcript::render;
-use xinu_base::Event;
+use trace_places::{Mistake, NoStart, find_mistake};
+use trace_report::report;
 
 /// The most bytes of a trace: 64 MiB.
 const LONGEST_TRACE: usize = 67_108_864;
-/// The most bytes of a line that are shown.
-const MOST_SHOWN: usize = 60;
 
 /// Sends on Out `yes` if the file of this name is the transcript of a run of the inputs, else where it goes wrong. The status is 0 or 10.
 ///
@@ -33,9 +29,13 @@ pub(crate) fn tell_mistake<'a, H: Host>(
     requires few { length inputs.images.items ≤ 8 }
     requires good { have_fault (map (λ v. v.items) inputs.images.items) ≡ false }
     requires events { length inputs.schedule ≤ 1000000000 }
+    ensures compares { Compares name.entry.now inputs result (H.view host.old) (H.view host.new) }
 {
     match host.fetch(alloc, name, LONGEST_TRACE) {
-        Ok(trace) => Ok(compare(alloc, inputs, trace.as_slice(), host)?),
+        Ok(trace) => match compare(alloc, inputs, trace.as_slice(), host) {
+            Ok(status) => Ok(status),
+            Err(refusal) => Err(Cause::Refused(refusal)),
+        },
         Err(HostFault::Failed) => Err(Cause::Unread(name)),
         Err(HostFault::NoMemory) => Err(Cause::Refused(Refusal::NoMemory)),
     }
@@ -51,23 +51,44 @@ fn compare<H: Host>(
     requires few { length inputs.images.items ≤ 8 }
     requires good { have_fault (map (λ v. v.items) inputs.images.items) ≡ false }
     requires events { length inputs.schedule ≤ 1000000000 }
+    ensures compares { ComparesText inputs trace.now result (H.view host.old) (H.view host.new) }
 {
     if trace.len() > LONGEST_TRACE {
         return Err(Refusal::TraceTooLong);
     }
     match mistake_in(alloc, inputs, trace) {
+        Ok(found) => send_report(alloc, trace, &found, host),
         Err(refusal) => Err(refusal),
-        Ok(None) => {
-            host.emit(Channel::Out, b"yes\n")?;
-            Ok(0)
-        }
-        Ok(Some(mistake)) => {
-            let Ok(text) = told(alloc, trace, &mistake).whole() else {
-                return Err(Refusal::NoMemory);
-            };
-            host.emit(Channel::Out, text.as_bytes())?;
-            Ok(10)
-        }
+    }
+}
+
+// Sends what is told of a text, by what was found of it.
+fn send_report<H: Host>(
+    alloc: Global,
+    trace: &[u8],
+    found: &Option<Mistake<'_>>,
+    host: &mut H,
+) -> Result<u8, Refusal>
+    requires few { length trace.now ≤ 67108864 }
+    ensures reports { Reports trace.now found.now result (H.view host.old) (H.view host.new) }
+{
+    let Ok(told) = report(alloc, trace, found) else {
+        return Err(Refusal::NoMemory);
+    };
+    match host.emit(Channel::Out, told.as_slice()) {
+        Ok(()) => Ok(status_of(found)),
+        Err(HostFault::Failed) => Err(Refusal::HostFault),
+        Err(HostFault::NoMemory) => Err(Refusal::NoMemory),
+    }
+}
+
+// The status by what was found.
+fn status_of(found: &Option<Mistake<'_>>) -> u8
+    ensures status { result ≡ specs.status_of found.now }
+{
+    match found {
+        None => 0,
+        Some(_) => 10,
     }
 }
 
@@ -81,6 +102,7 @@ fn mistake_in<'a>(
     requires good { have_fault (map (λ v. v.items) inputs.images.items) ≡ false }
     requires events { length inputs.schedule ≤ 1000000000 }
     ensures finds { IfOk result (λ r. FindsIn (disks_of inputs.disk0 inputs.disk1) (map (λ v. v.items) inputs.images.items) inputs.schedule text.now r) }
+    ensures refused { IfErr result (IsUnstarted (disks_of inputs.disk0 inputs.disk1) (map (λ v. v.items) inputs.images.items)) }
 {
     let Inputs {
         schedule,
@@ -106,93 +128,12 @@ fn mistake_in<'a>(
 }
 
 // The refusal of a machine that doesn't start.
-fn start_refusal(fault: NoStart) -> Refusal {
+fn start_refusal(fault: NoStart) -> Refusal
+    ensures refusal { result ≡ specs.start_refusal fault }
+{
     match fault {
         NoStart::Overlaps(image) => Refusal::Overlap(image),
         NoStart::NoRoom(image) => Refusal::NoRoom(image),
         NoStart::NoMemory => Refusal::NoMemory,
-    }
-}
-
-// The line that tells a mistake.
-fn told(alloc: Global, trace: &[u8], mistake: &Mistake<'_>) -> Text {
-    let number = line_number(trace, mistake.left);
-    let mut text = Text::new(alloc);
-    text.numbered("line ", number);
-    text.put(": the text ");
-    add_found(&mut text, mistake.left);
-    match &mistake.due {
-        None => text.put("; the run has ended"),
-        Some(due) => {
-            text.put("; a run has ");
-            add_quoted(&mut text, render(due).bytes());
-            add_moment(&mut text, number, &mistake.moment);
-        }
-    }
-    text.put("\n");
-    text
-}
-
-// The number of the line with which the rest of a text begins, counted from 1.
-fn line_number(text: &[u8], rest: &[u8]) -> u64 {
-    let mut number = 1u64;
-    let read = text.len().saturating_sub(rest.len());
-    for byte in text.iter().take(read) {
-        if *byte == b'\n' {
-            number = number.saturating_add(1);
-        }
-    }
-    number
-}
-
-// Adds what a text has: a line, one without a line feed, or nothing.
-fn add_found(text: &mut Text, rest: &[u8]) {
-    if rest.is_empty() {
-        return text.put("ends");
-    }
-    text.put("has ");
-    add_quoted(text, rest);
-    if !rest.contains(&b'\n') {
-        text.put(" without a line feed");
-    }
-}
-
-// Adds the first line of bytes in quotes, cut after some bytes. For a byte that isn't a printable character of ASCII there is `?`.
-fn add_quoted(text: &mut Text, bytes: &[u8]) {
-    text.put("\"");
-    let mut count = 0usize;
-    for byte in bytes {
-        if *byte == b'\n' {
-            break;
-        }
-        if count == MOST_SHOWN {
-            text.put("..");
-            break;
-        }
-        let is_shown = 32 <= *byte && *byte < 127;
-        text.character(if is_shown { *byte as char } else { '?' });
-        count = count.saturating_add(1);
-    }
-    text.put("\"");
-}
-
-// Adds when a run prints the line that is due.
-fn add_moment(text: &mut Text, line: u64, moment: &Option<Moment>) {
-    match moment {
-        None if line == 1 => text.put(" (before the first event)"),
-        None => text.put(" (after the last event)"),
-        Some(moment) => {
-            text.numbered(" (event ", moment.number);
-            match moment.event {
-                Event::Step => {
-                    text.numbered(", a step of process ", moment.process.index() as u64);
-                }
-                event => {
-                    text.put(", ");
-                    text.put(name_of(event));
-                }
-            }
-            text.put(")");
-        }
     }
 }

@@ -1,33 +1,51 @@
 //! What is told of a run: which events are listed, or after how many of them the state.
 
+ghost use Rattle.std.specs.Prelude.{◌≡◌, ◌+◌};
+ghost use Rattle.command_words.specs.ToolNames.{taken_words};
+ghost use Rattle.explain_command.specs.Words as specs;
+ghost use Rattle.explain_command.specs.Words.{asked_in};
+
 use command_words::Taken;
 
-/// The events that are listed, by the numbers of the first and the last, counted from 1.
-#[derive(Clone, Copy)]
-pub(crate) struct Listed {
-    pub(crate) first: u64,
-    pub(crate) last: u64,
+/// The events that are listed, by the numbers of the first and the last, counted from 1, if the words of the command ask for some.
+pub(crate) fn steps_in(words: &Taken<'_>) -> Option<(u64, u64)>
+    ensures steps { result ≡ (asked_in (taken_words words.now)).steps }
+{
+    words.span("steps")
 }
-
-/// No event is listed.
-pub(crate) const NONE: Listed = Listed { first: 1, last: 0 };
 
 /// After how many events the state is told, if the words of the command ask for that.
-pub(crate) fn told_at(words: &Taken<'_>) -> Option<u32> {
-    u32::try_from(words.number("at")?).ok()
+pub(crate) fn told_at(words: &Taken<'_>) -> Option<u32>
+    ensures at { result ≡ (asked_in (taken_words words.now)).at }
+{
+    match words.number("at") {
+        Some(number) => small(number),
+        None => None,
+    }
 }
 
-impl Listed {
-    /// The events that the words of the command ask for: none, if they ask for none.
-    pub(crate) fn of(words: &Taken<'_>) -> Listed {
-        match words.span("steps") {
-            Some((first, last)) => Listed { first, last },
-            None => NONE,
-        }
+// A number of 32 bits.
+fn small(number: u64) -> Option<u32>
+    ensures small { result ≡ specs.small number }
+{
+    if number < 4_294_967_296 {
+        Some(number as u32)
+    } else {
+        None
     }
+}
 
-    /// Whether the event of a number is listed.
-    pub(crate) fn has(&self, number: u64) -> bool {
-        self.first <= number && number <= self.last
+/// Whether the event that comes after so many is among those that are listed.
+pub(crate) fn is_listed(steps: Option<(u64, u64)>, taken: u32) -> bool {
+    match steps {
+        Some((first, last)) => first <= number_after(taken) && number_after(taken) <= last,
+        None => false,
     }
+}
+
+/// The number of the event that comes after so many, counted from 1.
+pub(crate) fn number_after(taken: u32) -> u64
+    ensures number { result ≡ taken + 1 }
+{
+    taken as u64 + 1
 }

@@ -1,2 +1,3 @@
+pub mod Endings
 pub mod Holders
 pub mod Said

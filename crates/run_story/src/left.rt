@@ -1,7 +1,7 @@
 //! The processes that are left at a run's end.
 
 use crate::lives::{Life, Lives};
-use printed_runs::{Awaited, Doing, Reader, Text, User};
+use printed_runs::{Reader, Text, User};
 use xinu_base::State;
 
 /// From how many ticks on it is told that a process is ready and doesn't run.
@@ -16,33 +16,6 @@ pub(crate) fn add_left(text: &mut Text, lives: &Lives, reader: &Reader, process:
     text.numbered(" since event ", life.since);
     add_more(text, lives, reader, life, tick);
     text.put(".\n");
-}
-
-/// Whether each process that is left waits for another: for a semaphore that processes made, for a message, a buffer or a port, or to be
-/// resumed.
-pub(crate) fn is_stuck(lives: &Lives) -> bool {
-    let mut is_any = false;
-    for life in lives.lives.iter().skip(1) {
-        if life.doing.lives() {
-            if !waits_for_process(life.doing) {
-                return false;
-            }
-            is_any = true;
-        }
-    }
-    is_any
-}
-
-// Whether a process waits for what another process alone can bring.
-fn waits_for_process(doing: Doing) -> bool {
-    match doing.state {
-        State::Receiving | State::Suspended => true,
-        State::Waiting => matches!(
-            doing.awaited,
-            Awaited::Semaphore | Awaited::Pool | Awaited::Port | Awaited::Nothing
-        ),
-        _ => false,
-    }
 }
 
 // Adds what a process does.

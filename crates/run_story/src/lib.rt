@@ -9,11 +9,12 @@
 //! | [`Story::event`] | an event that printed something, or may have changed what a process does |
 //! | [`Story::quiet`] | events that did neither |
 //! | [`Story::detail`] | more is known of the last trap |
-//! | [`Story::panic`] | the kernel panicked in this call |
 //! | [`Story::unsent`] | a byte that the console hasn't sent |
-//! | [`Story::tell_end`] | tells how the run ended, and its traps |
+//! | [`push_ending`] | `ending`: appends the line that tells how a run ended (`ending_line` in `specs/Endings.antt`) |
+//! | [`push_state_head`] | `after`: appends the line before what is told of a state (`after_line` there) |
+//! | [`Story::tell_traps`] | tells the traps |
 //! | [`Story::is_left`], [`Story::tell_left`] | whether a process is left, and what it does |
-//! | [`Story::tell_rest`] | tells whether they can go on, and what the console showed |
+//! | [`Story::tell_rest`] | tells who waits in a circle, and what the console showed |
 //! | [`Story::add_who`] | the number and the name of a process |
 //!
 //! What calls and replies say of semaphores is kept as `printed_runs` defines it: `knows` of [`Story::new`] and [`Story::event`]. The other calls
@@ -29,5 +30,6 @@ mod loops;
 mod story;
 mod traps;
 
+pub use endings::{push_ending, push_state_head};
 pub use loops::Loops;
 pub use story::Story;

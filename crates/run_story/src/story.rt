@@ -7,13 +7,12 @@ ghost use Rattle.run_story.specs.Said.{said_by};
 
 use crate::circles::add_circles;
 use crate::console::Stream;
-use crate::endings::add_ending;
-use crate::left::{add_left, is_stuck};
+use crate::left::add_left;
 use crate::lives::Lives;
 use crate::traps::add_trap;
 use printed_runs::{Reader, Shown, Text};
 use std::alloc::Global;
-use xinu_base::{End, Event};
+use xinu_base::Event;
 
 /// What is known of a run so far.
 pub struct Story {
@@ -31,8 +30,6 @@ pub struct Story {
     left: u64,
     /// The traps so far, in words.
     traps: Text,
-    /// The call in which the kernel panicked, if it did.
-    panicked: Text,
 }
 
 impl Drop for Story {
@@ -48,7 +45,6 @@ impl Drop for Story {
             unsent: _unsent,
             left: _left,
             traps: _traps,
-            panicked: _panicked,
         } = self;
     }
 }
@@ -69,7 +65,6 @@ impl Story {
             unsent: Stream::new(alloc),
             left: 0,
             traps: Text::new(alloc),
-            panicked: Text::new(alloc),
         }
     }
 
@@ -117,20 +112,14 @@ impl Story {
         self.traps.note(text.is_whole());
     }
 
-    /// The kernel panicked in this call, as a transcript has it.
-    pub fn panic(&mut self, call: &str) {
-        self.panicked = Text::of(self.alloc, call);
-    }
-
     /// The console hasn't sent a byte more.
     pub fn unsent(&mut self, byte: u8) {
         self.unsent.add(byte);
         self.left = self.left.saturating_add(1);
     }
 
-    /// Tells how the run ended, if it ended so, and its traps.
-    pub fn tell_end(&self, text: &mut Text, end: End) {
-        add_ending(text, end, self.events, self.ticks, &self.panicked);
+    /// Tells the traps.
+    pub fn tell_traps(&self, text: &mut Text) {
         text.note(self.lives.is_whole);
         text.add(&self.traps);
     }
@@ -145,11 +134,8 @@ impl Story {
         add_left(text, &self.lives, &self.reader, process, self.ticks);
     }
 
-    /// Tells whether those who are left can go on, and what the console showed.
+    /// Tells who waits in a circle, and what the console showed.
     pub fn tell_rest(&self, text: &mut Text) {
-        if is_stuck(&self.lives) {
-            text.put("Nobody can go on: each waits for another process.\n");
-        }
         add_circles(text, &self.lives, &self.reader);
         self.sent.tell(text, "The console sent:\n");
         self.add_unsent(text);

@@ -1,0 +1,19 @@
+//! What is told of a text that should be the transcript of a run: `yes`, or the line where it goes wrong.
+//!
+//! What goes wrong where is found by `trace_places`. The text that tells it is a definition, `report` in `specs/Reports.antt`: the number of the
+//! line, what the text has there, the line that a run prints instead, and in which event it does.
+//!
+//! | Call | Promise |
+//! |---|---|
+//! | [`report`] | `text`: the text that tells what was found |
+//! | [`event_name`] | `name`: the name of an event, as a schedule has it |
+//!
+//! Running out of memory is free.
+#![tactic(auto)]
+
+mod events;
+mod quotes;
+mod reports;
+
+pub use events::event_name;
+pub use reports::report;
