@@ -1,2 +1,5 @@
 pub mod Counted
 pub mod Kept
+pub mod Loaded
+pub mod Ranges
+pub mod Stored

@@ -7,6 +7,7 @@
 //!
 //! | Module | Its laws |
 //! |---|---|
+//! | [`deeds`] | an instruction changes no byte but those that it stores to, and depends on none but those that it fetches and loads |
 //! | [`histories`] | each run has a history, and each history is that of a run |
 //! | [`races`] | what a detector tells of the history of a run are its races, and it tells of each; so if it tells nothing there is none |
 //!
@@ -54,5 +55,6 @@
 //! | `open`, `close`, `read`, `write`, `getc`, `putc`, `seek`, `control`, `mount` | none, but wake of a reader whom `control` of the console releases |
 #![tactic(auto)]
 
+pub mod deeds;
 pub mod histories;
 pub mod races;
