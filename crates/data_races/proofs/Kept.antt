@@ -90,10 +90,10 @@ module _ (n : ℕ) where
         (holds_queue u (tokens_of old x) (tokens_of new x) (ledger.tokens x) (up.tokens x))
 
     messages_up : (x : ℕ) → Holds (Early n) (ledgers.messages_next n u call old new ledger x)
-    messages_up x = holds_if (Early n) (is_some (message_at new.tables x))
-        (holds_if (Early n) (is_some (message_at old.tables x)) (up.messages x)
-        (holds_first (Early n) (part n u) (of_now u) (holds_mapped (Early n) (part n) of_now (filter (λ w. (process_at old.tables w).parent == x) (dead old new)))))
-        (holds_none (Early n))
+    messages_up x = holds_if (Early n) (is_some (message_at new.tables x) && not (is_some (message_at old.tables x)))
+        (holds_first (Early n) (part n u) (of_now u)
+        (holds_mapped (Early n) (part n) of_now (filter (λ w. (process_at old.tables w).parent == x) (dead old new))))
+        (up.messages x)
 
     port_messages_up : (x : ℕ) → Holds (Early n) (ledgers.port_messages_next n u call old new ledger x)
     port_messages_up x = holds_if (Early n) (is_renewed old new x) (holds_none (Early n))

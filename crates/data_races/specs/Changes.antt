@@ -108,10 +108,14 @@ resets (Some call) s sem =
 abbrev pub is_owned : Xinu → ℕ → Bool
 is_owned s sem = is_some (semaphore_at s.tables sem).owner
 
+-- whether a semaphore begins or ceases to be in use in an event
+abbrev pub changes_use : Xinu → Xinu → ℕ → Bool
+changes_use old new sem = if is_owned old sem then not (is_owned new sem) else is_owned new sem
+
 -- whether a semaphore is made, reset or deleted in an event, by itself or with its port: its tokens are new ones
 abbrev pub is_remade : Option Call → Xinu → Xinu → ℕ → Bool
 is_remade call old new sem =
-    not (is_owned old sem && is_owned new sem) || (resets call old sem || is_renewed_if old new (port_of (semaphore_at old.tables sem).owner))
+    changes_use old new sem || (resets call old sem || is_renewed_if old new (port_of (semaphore_at old.tables sem).owner))
 
 -- the tokens of a semaphore
 abbrev pub tokens_of : Xinu → ℕ → ℕ

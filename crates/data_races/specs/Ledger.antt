@@ -1,5 +1,5 @@
 -- Who gave what is still to be taken: tokens, messages, buffers; and who died.
-use Rattle.std.specs.Prelude.{ℕ, ◌-◌, ◌==◌, if◌then◌else◌, List, [], ◌∷◌, ◌++◌, drop, filter, map, replicate, Option, Some, None, is_some}
+use Rattle.std.specs.Prelude.{◌≡◌, ℕ, ◌-◌, ◌==◌, not, if◌then◌else◌, ◌&&◌, List, [], ◌∷◌, ◌++◌, drop, filter, map, replicate, Option, Some, None, is_some}
 use Rattle.xinu_base.specs.declared.syscalls.Call.{Call}
 use Rattle.xinu_model.specs.Machine.{Xinu}
 use Rattle.xinu_model.specs.Pools.Buffers.{is_in}
@@ -41,9 +41,8 @@ module _ (n u : ℕ) (call : Option Call) (old new : Xinu) (ledger : Ledger) whe
   -- a message is put by the process that steps and, if it tells of a death, by the one that dies
   abbrev pub messages_next : ℕ → List Part
   messages_next p =
-      if is_some (message_at new.tables p)
-      then (if is_some (message_at old.tables p) then ledger.messages p else part n u ∷ dead_children n old new p)
-      else []
+      if is_some (message_at new.tables p) && not (is_some (message_at old.tables p)) then part n u ∷ dead_children n old new p
+      else ledger.messages p
 
   abbrev pub port_messages_next : ℕ → List Part
   port_messages_next q =
@@ -68,3 +67,11 @@ module _ (n u : ℕ) (call : Option Call) (old new : Xinu) (ledger : Ledger) whe
 unfoldable pub ledger_next : ℕ → Option ℕ → Option Call → Xinu → Xinu → Ledger → Ledger
 ledger_next n None call old new ledger = ledger
 ledger_next n (Some u) call old new ledger = with_step n u call old new ledger
+
+-- Two ledgers have the same entries.
+pub record HasSameEntries (a b : Ledger) : Type 0 where
+  pub tokens : (sem : ℕ) → a.tokens sem ≡ b.tokens sem
+  pub messages : (p : ℕ) → a.messages p ≡ b.messages p
+  pub port_messages : (q : ℕ) → a.port_messages q ≡ b.port_messages q
+  pub buffers : (address : ℕ) → a.buffers address ≡ b.buffers address
+  pub deaths : (p : ℕ) → a.deaths p ≡ b.deaths p
