@@ -3,3 +3,4 @@ pub mod Histories
 pub mod Order
 pub mod Races
 pub mod Told
+pub mod Worked

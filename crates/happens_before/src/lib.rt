@@ -8,6 +8,7 @@
 //!
 //! | Module | Its laws |
 //! |---|---|
+//! | [`examples`] | worked histories: a counter, a token, a death, a wake, and a byte with a new owner |
 //! | [`order`] | the clock of a part has exactly what happens before it |
 //! | [`races`] | what is told is a race; each race is told by the last access that conflicts, so if nothing is told there is none |
 //! | [`going`] | one more moment is one more step; later moments change nothing of what was found, and a kept clock stays |
@@ -16,6 +17,7 @@
 //! detector.
 #![tactic(auto)]
 
+pub mod examples;
 pub mod going;
 pub mod order;
 pub mod races;

@@ -1,0 +1,10 @@
+pub mod Changes
+pub mod Consoles
+pub mod Deeds
+pub mod Disks
+pub mod Edges
+pub mod Instructions
+pub mod Ledger
+pub mod Memory
+pub mod Runs
+pub mod Texts
