@@ -295,7 +295,7 @@ pub send_told : (p message : ℕ) (s : Xinu) → Tells (send_causes p s) (send p
 send_told p message s = sent_told (is_free (state_at s.tables p)) (is_some (message_at s.tables p)) _ s
 
 -- calls 22 and 23
-received_told : (message : Option ℕ) (otherwise : CallResult) (s : Xinu) → Tells [] otherwise
+pub received_told : (message : Option ℕ) (otherwise : CallResult) (s : Xinu) → Tells [] otherwise
     → Tells (cause reason.MessageIsMinusOne (is_minus_one_message message) ∷ []) (received message otherwise s)
 received_told None otherwise s k = tells k.told
 received_told (Some message) otherwise s k = value_told reason.MessageIsMinusOne (signed message) _

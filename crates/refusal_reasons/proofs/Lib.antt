@@ -1,8 +1,11 @@
+pub mod Ahead
 pub mod Blocks
 pub mod Calls
 pub mod Chained
 pub mod Combined
 pub mod Counted
 pub mod Signs
+pub mod Effects
+pub mod Later
 pub mod Rows
 pub mod Switch

@@ -92,7 +92,7 @@ unfolding calls cause_rows
 all_calls = refl
 
 -- a number is -1 if its test says so
-minus_one : (answer : Answer) → answers_minus_one answer ≡ true → answer ≡ Returns SYSERR
+pub minus_one : (answer : Answer) → answers_minus_one answer ≡ true → answer ≡ Returns SYSERR
 minus_one (Returns (pos n)) e = absurd (cc)
 minus_one (Returns (negsuc zero)) e = refl
 minus_one (Returns (negsuc (suc n))) e = absurd (cc)

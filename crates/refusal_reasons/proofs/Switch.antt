@@ -45,7 +45,7 @@ use Rattle.xinu_model.specs.Tables.{semaphore_at}
 use Rattle.xinu_model.specs.Words.{signed}
 
 -- what never answers -1 has no reason
-never_told : (x : CallResult) → Never 0 x → Tells [] x
+pub never_told : (x : CallResult) → Never 0 x → Tells [] x
 never_told x never = tells (by_answer x.answer never)
   where
     by_answer : (answer : Answer) → (answer ≡ Returns (negsuc 0) → ⊥) → answers_minus_one answer ≡ false
@@ -67,7 +67,7 @@ token_told sem left then_ s go = by_tokens (semaphore_at s.tables sem).tokens
     by_tokens (suc n) = go _
 
 -- -1 isn't the answer at the end of the input
-not_end : zero ≢ suc zero
+pub not_end : zero ≢ suc zero
 not_end e = absurd (cc)
 
 -- A call on a device: there has to be one that offers the call.

@@ -1,5 +1,6 @@
 -- The causes of a refusal, in order, and which answers are -1.
-use Rattle.std.specs.Prelude.{ℕ, zero, suc, ◌==◌, Bool, true, false, if◌then◌else◌, List, [], ◌∷◌, Option, None, Some, ℤ, pos, negsuc}
+use Rattle.std.specs.Prelude.{◌++◌, ◌≡◌, ℕ, zero, suc, ◌==◌, Bool, true, false, if◌then◌else◌, List, [], ◌∷◌, Option, None, Some, ℤ, pos, negsuc}
+use Rattle.std.specs.List.{AllByRecursion}
 use Rattle.refusal_reasons.specs.declared.reasons.Cause.{Cause}
 use Rattle.refusal_reasons.specs.declared.reasons.Reason.{Reason}
 use Rattle.refusal_reasons.specs.declared.reasons.Reason.TheVariants.{NoCall}
@@ -51,3 +52,13 @@ answers_minus_one Waits = false
 answers_minus_one Gone = false
 answers_minus_one Panics = false
 answers_minus_one Silent = false
+
+-- A reason is that of the first cause that holds: it holds, and none before it does.
+pub record IsFirst (causes : List Cause) (reason : Reason) : Type 0 where
+  pub before : List Cause
+  pub first : Cause
+  pub after : List Cause
+  pub are : causes ≡ before ++ first ∷ after
+  pub none : AllByRecursion (λ (c : Cause). c.holds ≡ false) before
+  pub holds : first.holds ≡ true
+  pub gives : first.reason ≡ reason

@@ -2,6 +2,7 @@ pub mod Causes
 pub mod Clock
 pub mod Devices
 pub mod Files
+pub mod Later
 pub mod Memory
 pub mod Messages
 pub mod Names

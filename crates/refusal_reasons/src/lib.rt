@@ -7,11 +7,13 @@
 //!
 //! | Law or call | Promise |
 //! |---|---|
-//! | [`laws::refusals_have_reasons`] | a call of any number, with any arguments, is answered -1 in its event if and only if it has a reason |
+//! | [`laws::refusals_have_reasons`] | `calls`: a call of any number, with any arguments, is answered -1 in its event if and only if it has a reason; `first`: the first of its causes that holds gives it; `ahead`: it can be read off the state ahead of the event |
+//! | [`laws::later_refusals_have_reasons`] | the same of what is left of a call that waited, as it goes on |
+//! | [`laws::refused_effects_have_reasons`] | the same of a call on files as it takes effect, and of a completion of the raw disk |
 //! | [`reason_of`] | `reason`: the reason of a call in a state, or memory ran out |
 //! | [`Reason::words`] | the reason in plain English |
 //!
-//! A call that waits is answered later: it has no reason in its event.
+//! A call that waits is answered later: it has no reason in its event. The later reasons are in `specs/Later.antt`.
 #![tactic(auto)]
 
 mod asked;

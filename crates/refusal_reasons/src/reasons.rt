@@ -126,6 +126,38 @@ pub enum Reason {
     PrefixTooLong,
     /// The replacement is longer than 31 bytes.
     ReplacementTooLong,
+    /// The pool has no free buffer, which is never so in a sound state.
+    NoFreeBuffer,
+    /// The port was reset, deleted or made anew since the call began.
+    PortRenewed,
+    /// The port has no message, which is never so in a sound state.
+    NoMessage,
+    /// The disk answered the call -1 at its completion.
+    DiskRefused,
+    /// The completion of the raw disk failed.
+    CompletionFailed,
+    /// The file is open.
+    FileIsOpen,
+    /// All six file devices have a file open.
+    SixOpen,
+    /// Only a new file was asked for, and there is one of this name.
+    FileExists,
+    /// No file has the name.
+    NoFile,
+    /// There are 78 files.
+    TooManyFiles,
+    /// The device has no file open.
+    NotOpen,
+    /// The file wasn't opened for reading.
+    NotReadable,
+    /// The file wasn't opened for writing.
+    NotWritable,
+    /// The disk has no room.
+    NoRoom,
+    /// The position is negative.
+    NegativePosition,
+    /// The position is beyond the end of the file.
+    BeyondEnd,
 }
 
 /// A cause: whether it holds, and the reason that it gives.

@@ -73,6 +73,22 @@ impl Reason {
             Reason::NoFreeRow => "40 prefixes are mounted already",
             Reason::PrefixTooLong => "the prefix is longer than 31 bytes",
             Reason::ReplacementTooLong => "the replacement is longer than 31 bytes",
+            Reason::NoFreeBuffer => "the pool has no free buffer",
+            Reason::PortRenewed => "the port was reset, deleted or made anew meanwhile",
+            Reason::NoMessage => "the port has no message",
+            Reason::DiskRefused => "the disk refused it when its turn came",
+            Reason::CompletionFailed => "the disk's completion failed",
+            Reason::FileIsOpen => "the file is open already",
+            Reason::SixOpen => "six files are open already",
+            Reason::FileExists => "only a new file is asked for, and there is one of this name",
+            Reason::NoFile => "there is no such file",
+            Reason::TooManyFiles => "there are 78 files already",
+            Reason::NotOpen => "the device has no file open",
+            Reason::NotReadable => "the file wasn't opened for reading",
+            Reason::NotWritable => "the file wasn't opened for writing",
+            Reason::NoRoom => "the disk has no room",
+            Reason::NegativePosition => "the position is negative",
+            Reason::BeyondEnd => "the position is beyond the end of the file",
         }
     }
 }
