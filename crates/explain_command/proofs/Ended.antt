@@ -5,10 +5,10 @@ use Rattle.std.proofs.lemmas.List.{take-append-drop, take_all}
 use Rattle.std.proofs.lemmas.Option.{slice_get_within, get_or_from_slice_get}
 use Rattle.std.proofs.Math.Seq.{take-add}
 use Rattle.std.specs.Prelude.{is_some, slice_get}
-use Rattle.explain_command.specs.Ends.{CountsAll, EndsAs, HasEnded}
+use Rattle.explain_command.specs.Ends.{CountsAll, EndsAs, EndsNotBefore, HasEnded}
 use Rattle.replayed_run.proofs.Joined.{run-joined}
 use Rattle.replayed_run.specs.Progress.{EndsWith, TakesEvent, TakesSteps}
-use Rattle.replayed_run.specs.Replayed.{EndsNotBefore, IsReplayed, Replayed, is_at_end}
+use Rattle.replayed_run.specs.Replayed.{IsReplayed, Replayed, is_at_end}
 use Rattle.xinu_base.specs.declared.events.End.{End}
 use Rattle.xinu_base.specs.declared.events.End.TheVariants.{Schedule, Done, Panic}
 use Rattle.xinu_base.specs.declared.events.Event.{Event}

@@ -1,7 +1,7 @@
 -- How a run ended, and the call in which the kernel panicked.
-use Rattle.std.specs.Prelude.{◌≡◌, ℕ, ◌-◌, false, List, [], length, take, Option, Some, None}
+use Rattle.std.specs.Prelude.{◌≡◌, ℕ, suc, ◌-◌, false, List, [], length, take, Option, Some, None}
 use Rattle.explain_command.specs.declared.sights.Sight.{Sight}
-use Rattle.replayed_run.specs.Replayed.{EndsNotBefore, Replayed}
+use Rattle.replayed_run.specs.Replayed.{Replayed}
 use Rattle.run_inputs.specs.Starts.{StartsIn}
 use Rattle.xinu_base.specs.declared.events.End.{End}
 use Rattle.xinu_base.specs.declared.events.End.TheVariants.{Schedule, Done, Panic}
@@ -10,6 +10,14 @@ use Rattle.xinu_base.specs.declared.lines.TranscriptLine.TheVariants as line
 use Rattle.xinu_model.specs.Machine.{Xinu}
 use Rattle.xinu_model.specs.Runs.{RunsTo}
 use Rattle.xinu_model.specs.Text.{line_text}
+
+-- No event before the one that was taken last ended the run.
+pub record EndsNotBefore (start : Xinu) (r : Replayed) : Type 0 where
+  pub before : ℕ
+  pub one_more : r.taken ≡ suc before
+  pub lines : List TranscriptLine
+  pub state : Xinu
+  pub runs : RunsTo start (take before r.events) lines state Schedule
 
 -- As many events were taken as the run has: all of them, if the schedule ended; else no event before the last one that was taken ended the run.
 abbrev pub CountsAll : End → Replayed → Xinu → Type 0

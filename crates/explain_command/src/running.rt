@@ -34,7 +34,7 @@ pub(crate) fn tell(
     requires goes_on { replay.old.over ≡ false }
     ensures tells { IfOk result (λ text. IsStory steps replay.old text.items) }
 {
-    let mut telling = Telling::new(alloc);
+    let mut telling = Telling::new(alloc)?;
     let mut strays = Strays::new(alloc)?;
     tell_run(replay, &mut telling, &mut strays, steps)
 }
@@ -47,7 +47,7 @@ pub(crate) fn tell_at(alloc: Global, replay: &mut Replay, events: u32) -> Result
     requires begins { replay.old.taken ≡ 0 }
     ensures tells { IfOk result (λ text. IsStateText events replay.old text.items) }
 {
-    let mut telling = Telling::new(alloc);
+    let mut telling = Telling::new(alloc)?;
     telling.story.begin(tables(replay)?.lines());
     take_until(replay, &mut telling, events)?;
     replay.runs();

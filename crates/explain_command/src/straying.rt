@@ -37,6 +37,12 @@ pub(crate) fn add_strays(
         text.put(", over an instruction");
         end(text, &stray, files);
     }
+    if let Some(stray) = new_in(strays.free(), taken) {
+        begin(text, &stray, story);
+        add_store(text, &stray);
+        text.put(", in memory that is free");
+        end(text, &stray, files);
+    }
 }
 
 // The stray, if it is in the step after so many events.

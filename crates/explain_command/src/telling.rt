@@ -7,9 +7,11 @@ ghost use Rattle.run_story.specs.Endings.{after_line};
 
 use crate::callers::add_callers;
 use crate::ends::{push_after, push_end};
+use crate::going::{add_going, note_place};
 use crate::happenings::Happening;
 use crate::listing::add_changes;
 use crate::reasons::add_reason;
+use crate::refusals::Refusals;
 use crate::sights::Sight;
 use crate::states::{add_lists, add_process, add_stack};
 use crate::steps::add_step;
@@ -21,7 +23,7 @@ use crate::words::number_after;
 use memory_strays::Strays;
 use printed_runs::{PROCESSES, Text};
 use replayed_run::Replay;
-use run_story::Story;
+use run_story::{Loops, Story};
 use std::alloc::{AllocError, Global};
 use trace_report::event_name;
 use xinu_base::{End, Event, Pid};
@@ -32,6 +34,8 @@ pub(crate) struct Telling {
     alloc: Global,
     pub(crate) story: Story,
     strayed: Text,
+    refusals: Refusals,
+    loops: Loops,
     listing: Text,
     /// What was seen ahead of the event in which the kernel panicked.
     panicked: Option<Sight>,
@@ -39,17 +43,22 @@ pub(crate) struct Telling {
 
 impl Telling {
     /// Of no event.
-    pub(crate) fn new(alloc: Global) -> Telling {
-        Telling {
+    ///
+    /// # Errors
+    /// Out of memory.
+    pub(crate) fn new(alloc: Global) -> Result<Telling, AllocError> {
+        Ok(Telling {
             alloc,
             story: Story::new(alloc),
             strayed: Text::new(alloc),
+            refusals: Refusals::new(alloc),
+            loops: Loops::new(alloc)?,
             listing: Text::new(alloc),
             panicked: None,
-        }
+        })
     }
 
-    /// Notes the event that comes next among the strays, and tells of it if it is the first of its kind.
+    /// Notes the event that comes next: a stray, which is told if it is the first of its kind, a call that is refused, and where a process is.
     pub(crate) fn note(&mut self, event: Event, replay: &Replay, strays: &mut Strays)
         ensures notes { strays.new ≡ note_event (Some event) replay.now.taken replay.now.state strays.old }
     {
@@ -62,6 +71,8 @@ impl Telling {
                 &self.story,
                 replay.files(),
             );
+            self.refusals.note(replay);
+            note_place(&mut self.loops, replay);
         }
     }
 
@@ -117,7 +128,7 @@ impl Telling {
         let mut told = Vec::new(self.alloc);
         told.extend_from_slice(self.list_asked(steps).as_bytes())?;
         push_end(&mut told, replay, end, self.panicked)?;
-        let rest = self.rest(replay)?;
+        let rest = self.rest(replay, end)?;
         told.extend_from_slice(rest.as_bytes())?;
         Ok(told)
     }
@@ -133,15 +144,17 @@ impl Telling {
     }
 
     // What is told after the first line.
-    fn rest(&self, replay: &Replay) -> Result<String, AllocError> {
+    fn rest(&self, replay: &Replay, end: End) -> Result<String, AllocError> {
         let mut text = Text::new(self.alloc);
         text.note(self.listing.is_whole());
         self.story.tell_traps(&mut text);
         text.add(&self.strayed);
+        self.refusals.tell(&mut text, &self.story, replay.files());
         self.add_left(&mut text, replay);
         if is_stuck(replay) {
             text.put("Nobody can go on: each waits for another process.\n");
         }
+        add_going(&mut text, &self.loops, replay, end, &self.story);
         self.story.tell_rest(&mut text);
         text.whole()
     }
