@@ -1,6 +1,6 @@
 -- The processes that are left, one after another.
-use Rattle.std.proofs.Common.{◌≡◌, ◌∙◌, ◌+◌, ◌≤◌, ℕ, suc, List, [], ◌++◌, refl, subst, sym, add-one}
-use Rattle.explain_command.specs.Left.{AreTold, IsTold, ToldAfter}
+use Rattle.std.proofs.Common.{◌≡◌, ◌+◌, ℕ, suc, List, [], ◌++◌, subst, sym, add-one}
+use Rattle.explain_command.specs.Left.{AreTold, IsTold}
 use Rattle.xinu_model.specs.Tables.{Tables}
 
 pub told_none : (t : Tables) (text : List ℕ) → text ≡ [] → AreTold t 0 text

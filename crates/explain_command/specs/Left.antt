@@ -1,5 +1,5 @@
 -- What is told of the processes that are left. Read `AreTold`, at the end, first.
-use Rattle.std.specs.Prelude.{◌≡◌, ℕ, zero, suc, Bool, true, false, if◌then◌else◌, List, [], ◌++◌, drop, codes}
+use Rattle.std.specs.Prelude.{◌≡◌, ℕ, zero, suc, true, false, if◌then◌else◌, List, [], ◌++◌, drop, codes}
 use Rattle.std.specs.List.{list_all}
 use Rattle.run_story.specs.Left.{left_line}
 use Rattle.xinu_model.specs.Tables.{Tables, is_free, state_at}
