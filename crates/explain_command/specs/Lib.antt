@@ -1,6 +1,7 @@
 pub mod Changes
 pub mod Ends
 pub mod Happenings
+pub mod Left
 pub mod Passing
 pub mod Reasons
 pub mod Sights

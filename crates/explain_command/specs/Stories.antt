@@ -1,6 +1,7 @@
 -- What is told of a run. Read `TellsRun`, at the end, first.
 use Rattle.std.specs.Prelude.{◌≡◌, ◌⊎◌, ◌==◌, ◌||◌, ℕ, true, false, List, [], ◌++◌, map, Option, Some, None, Result, Ok, Err}
 use Rattle.explain_command.specs.Ends.{HasEnded, call_text}
+use Rattle.explain_command.specs.Left.{AreTold, left_head}
 use Rattle.explain_command.specs.Traces.{IsUnstarted, SendsPart}
 use Rattle.explain_command.specs.Words.{Asked}
 use Rattle.explain_command.specs.declared.sights.Sight.{Sight}
@@ -20,13 +21,16 @@ use Rattle.xinu_base.specs.declared.events.End.{End}
 -- ---- the text
 
 -- A text tells how a run ended, in a line: after the list of events, which is empty unless one is asked for, and ahead of all else. The line has
--- the end, the number of events that were taken and the tick of the state.
+-- the end, the number of events that were taken and the tick of the state. After traps and strays it tells of the processes that are left.
 pub record HasParts (steps : Option (ℕ × ℕ)) (r : Replayed) (end : End) (text : List ℕ) : Type 0 where
   pub listing : List ℕ
   pub unlisted : steps ≡ None → listing ≡ []
   pub panicked : Option Sight
+  pub traps : List ℕ
+  pub left : List ℕ
+  pub told : AreTold r.state.tables 63 left
   pub rest : List ℕ
-  pub is : text ≡ listing ++ ending_line end r.taken r.state.tables.ticks (call_text panicked) ++ rest
+  pub is : text ≡ listing ++ ending_line end r.taken r.state.tables.ticks (call_text panicked) ++ traps ++ left_head r.state.tables ++ left ++ rest
 
 -- It is the story of a run: the run went on to its end, and that is told.
 pub record IsStory (steps : Option (ℕ × ℕ)) (r : Replayed) (text : List ℕ) : Type 0 where

@@ -1,6 +1,6 @@
 //! What is told of a run so far: the story, and the list of events.
 
-ghost use Rattle.std.specs.Prelude.{◌≡◌, ◌++◌, ℕ, List, [], Some, None, IfOk};
+ghost use Rattle.std.specs.Prelude.{◌≡◌, ◌<◌, ◌++◌, ℕ, List, [], Some, None, IfOk};
 ghost use Rattle.explain_command.specs.Stories.{HasParts};
 ghost use Rattle.memory_strays.specs.Strays.{note, note_event};
 ghost use Rattle.run_story.specs.Endings.{after_line};
@@ -9,6 +9,7 @@ use crate::callers::add_callers;
 use crate::ends::{push_after, push_end};
 use crate::going::{add_going, note_place};
 use crate::happenings::Happening;
+use crate::left::{head_of, left_text, process_text};
 use crate::listing::add_changes;
 use crate::reasons::add_reason;
 use crate::refusals::Refusals;
@@ -18,7 +19,6 @@ use crate::steps::add_step;
 use crate::straying::add_strays;
 use crate::stuck::is_stuck;
 use crate::traps::{add_trap, add_trap_place};
-use crate::whereabouts::add_whereabouts;
 use crate::words::number_after;
 use memory_strays::Strays;
 use printed_runs::{PROCESSES, Text};
@@ -128,6 +128,11 @@ impl Telling {
         let mut told = Vec::new(self.alloc);
         told.extend_from_slice(self.list_asked(steps).as_bytes())?;
         push_end(&mut told, replay, end, self.panicked)?;
+        let traps = self.traps(replay.files())?;
+        told.extend_from_slice(traps.as_bytes())?;
+        told.extend_from_slice(head_of(replay).as_bytes())?;
+        let left = left_text(self.alloc, replay, &self.story)?;
+        told.extend_from_slice(left.as_slice())?;
         let rest = self.rest(replay, end)?;
         told.extend_from_slice(rest.as_bytes())?;
         Ok(told)
@@ -143,14 +148,19 @@ impl Telling {
         }
     }
 
-    // What is told after the first line.
-    fn rest(&self, replay: &Replay, end: End) -> Result<String, AllocError> {
+    // The traps, the strays and the calls that were refused.
+    fn traps(&self, files: &[Vec<u8>]) -> Result<String, AllocError> {
         let mut text = Text::new(self.alloc);
         text.note(self.listing.is_whole());
         self.story.tell_traps(&mut text);
         text.add(&self.strayed);
-        self.refusals.tell(&mut text, &self.story, replay.files());
-        self.add_left(&mut text, replay);
+        self.refusals.tell(&mut text, &self.story, files);
+        text.whole()
+    }
+
+    // What is told after who is left.
+    fn rest(&self, replay: &Replay, end: End) -> Result<String, AllocError> {
+        let mut text = Text::new(self.alloc);
         if is_stuck(replay) {
             text.put("Nobody can go on: each waits for another process.\n");
         }
@@ -169,39 +179,46 @@ impl Telling {
         let mut told = Vec::new(self.alloc);
         push_after(&mut told, replay)?;
         let rest = self.state_rest(replay, tables)?;
-        told.extend_from_slice(rest.as_bytes())?;
+        told.extend_from_slice(rest.as_slice())?;
         Ok(told)
     }
 
     // What is told of a state after the first line.
-    fn state_rest(&self, replay: &Replay, tables: &str) -> Result<String, AllocError> {
-        let mut text = Text::new(self.alloc);
+    fn state_rest(&self, replay: &Replay, tables: &str) -> Result<Vec<u8>, AllocError> {
+        let mut told = Vec::new(self.alloc);
         for number in 1..PROCESSES {
-            if self.story.is_left(number) {
-                self.story.tell_left(&mut text, number);
-                let process = Pid::at(number);
-                add_whereabouts(&mut text, replay, process);
-                add_process(&mut text, tables, number);
-                add_stack(&mut text, replay.state(), process);
+            let text = process_text(self.alloc, replay, &self.story, number)?;
+            if !text.is_empty() {
+                told.extend_from_slice(text.as_slice())?;
+                let more = self.process_rest(replay, tables, number)?;
+                told.extend_from_slice(more.as_bytes())?;
             }
         }
-        add_lists(&mut text, &self.story, tables);
+        let lists = self.lists(tables)?;
+        told.extend_from_slice(lists.as_bytes())?;
+        Ok(told)
+    }
+
+    // The priority, the message and the stack of a process.
+    fn process_rest(
+        &self,
+        replay: &Replay,
+        tables: &str,
+        number: usize,
+    ) -> Result<String, AllocError>
+        requires below { number < 64 }
+    {
+        let mut text = Text::new(self.alloc);
+        add_process(&mut text, tables, number);
+        add_stack(&mut text, replay.state(), Pid::at(number));
         text.whole()
     }
 
-    // Tells of each process that is left but the null process what it does, and where it is.
-    fn add_left(&self, text: &mut Text, replay: &Replay) {
-        let mut is_any = false;
-        for number in 1..PROCESSES {
-            if self.story.is_left(number) {
-                if !is_any {
-                    text.put("Left:\n");
-                }
-                is_any = true;
-                self.story.tell_left(text, number);
-                add_whereabouts(text, replay, Pid::at(number));
-            }
-        }
+    // The lists of a state.
+    fn lists(&self, tables: &str) -> Result<String, AllocError> {
+        let mut text = Text::new(self.alloc);
+        add_lists(&mut text, &self.story, tables);
+        text.whole()
     }
 }
 

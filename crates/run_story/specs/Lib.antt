@@ -1,3 +1,4 @@
 pub mod Endings
 pub mod Holders
+pub mod Left
 pub mod Said

@@ -2,36 +2,51 @@
 
 use crate::lives::{Life, Lives};
 use printed_runs::{Reader, Text, User};
+use std::alloc::Global;
 use xinu_base::State;
 
 /// From how many ticks on it is told that a process is ready and doesn't run.
 const LONG: u32 = 4;
 
-/// Tells of a process that is left, at this tick, in a line.
-pub(crate) fn add_left(text: &mut Text, lives: &Lives, reader: &Reader, process: usize, tick: u32) {
-    let life = lives.life(process);
-    text.put("  ");
-    lives.add_who(text, process);
-    add_state(text, life);
-    text.numbered(" since event ", life.since);
-    add_more(text, lives, reader, life, tick);
-    text.put(".\n");
+/// What is told of a process that is left beside its number and its state.
+#[derive(Drop)]
+pub struct LeftWords {
+    /// Its name, after a blank; nothing if it has none.
+    pub name: Text,
+    /// The word for what it waits for, if it waits for a semaphore.
+    pub awaited: Text,
+    /// The number of the event since which it does what it does.
+    pub since: u64,
+    /// What else is told.
+    pub more: Text,
 }
 
-// Adds what a process does.
-fn add_state(text: &mut Text, life: Life) {
-    text.put(match life.doing.state {
-        State::Free => "",
-        State::Current => " runs,",
-        State::Ready => " is ready",
-        State::Receiving | State::Timed => " waits for a message",
-        State::Sleeping => " sleeps",
-        State::Suspended => " is suspended",
-        State::Waiting => " waits for ",
-    });
-    if matches!(life.doing.state, State::Waiting) {
-        life.doing.add_word(text);
+impl LeftWords {
+    /// Whether memory never ran out for it.
+    pub fn are_whole(&self) -> bool {
+        self.name.is_whole() && self.awaited.is_whole() && self.more.is_whole()
     }
+}
+
+/// What is told of a process that is left, at this tick.
+pub(crate) fn left_words(
+    alloc: Global,
+    lives: &Lives,
+    reader: &Reader,
+    process: usize,
+    tick: u32,
+) -> LeftWords {
+    let life = lives.life(process);
+    let mut words = LeftWords {
+        name: Text::new(alloc),
+        awaited: Text::new(alloc),
+        since: life.since,
+        more: Text::new(alloc),
+    };
+    lives.add_name_of(&mut words.name, process);
+    life.doing.add_word(&mut words.awaited);
+    add_more(&mut words.more, lives, reader, life, tick);
+    words
 }
 
 // Adds what else is told of what a process does.

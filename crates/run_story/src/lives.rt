@@ -97,6 +97,11 @@ impl Lives {
     /// Adds the number and the name of a process, as `2 alice`.
     pub(crate) fn add_who(&self, text: &mut Text, p: usize) {
         text.number(p as u64);
+        self.add_name_of(text, p);
+    }
+
+    /// Adds the name of a process after a blank, if it has one.
+    pub(crate) fn add_name_of(&self, text: &mut Text, p: usize) {
         if let Some(name) = self.names.get(p) {
             if !name.is_empty() {
                 text.put(" ");

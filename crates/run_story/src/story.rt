@@ -7,7 +7,7 @@ ghost use Rattle.run_story.specs.Said.{said_by};
 
 use crate::circles::add_circles;
 use crate::console::Stream;
-use crate::left::add_left;
+use crate::left::{LeftWords, left_words};
 use crate::lives::Lives;
 use crate::traps::add_trap;
 use printed_runs::{Reader, Shown, Text};
@@ -124,14 +124,9 @@ impl Story {
         text.add(&self.traps);
     }
 
-    /// Whether a process is left.
-    pub fn is_left(&self, process: usize) -> bool {
-        self.lives.life(process).doing.lives()
-    }
-
-    /// Tells of a process that is left what it does, in a line.
-    pub fn tell_left(&self, text: &mut Text, process: usize) {
-        add_left(text, &self.lives, &self.reader, process, self.ticks);
+    /// What is told of a process that is left.
+    pub fn left_words(&self, process: usize) -> LeftWords {
+        left_words(self.alloc, &self.lives, &self.reader, process, self.ticks)
     }
 
     /// Tells who waits in a circle, and what the console showed.
