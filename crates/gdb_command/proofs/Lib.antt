@@ -1,3 +1,4 @@
+pub mod NamedText
 pub mod NextEvents
 pub mod Obeyed
 pub mod Served

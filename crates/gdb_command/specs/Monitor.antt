@@ -1,13 +1,18 @@
 -- What the debugger's `monitor` asks for, and what it says.
 use Rattle.std.specs.Prelude.{ℕ, ◌+◌, ◌-◌, ◌*◌, ◌&&◌, nat_lt, if◌then◌else◌, List, [], ◌∷◌, ◌++◌, take, drop, Option, Some, None, codes, slice_get}
 use Rattle.std.specs.Fmt.{decimal}
+use Rattle.std.specs.List.{flat_map}
 use Rattle.std.specs.Str.{bytes_eq}
 use Rattle.gdb_command.specs.declared.asked.Asked.{Asked}
 use Rattle.gdb_command.specs.declared.asked.Asked.TheVariants as asked
 use Rattle.gdb_packets.specs.Digits.{is_between}
+use Rattle.printed_runs.specs.Names.{named_line}
 use Rattle.replayed_run.specs.Replayed.{Replayed, is_at_end}
+use Rattle.text_lines.specs.Lines.{lines_of}
 use Rattle.xinu_base.specs.declared.events.Event.{Event}
 use Rattle.xinu_base.specs.declared.events.Event.TheVariants as event
+use Rattle.xinu_model.specs.Machine.{Xinu}
+use Rattle.xinu_model.specs.Text.{tables_of, text}
 
 -- a number, and a digit after it, if it is one and the number has 32 bits
 abbrev pub one_more : ℕ → ℕ → Option ℕ
@@ -70,3 +75,15 @@ event_word (Some event.Dump) = codes "dump"
 -- how many events were taken, and which comes next
 abbrev pub event_text : Replayed → List ℕ
 event_text r = decimal r.taken ++ codes " events were taken; next: " ++ event_word (next_event r) ++ codes "\n"
+
+-- a line with the name of a process as a text after it, and a line feed
+abbrev pub named_and_fed : List ℕ → List ℕ
+named_and_fed line = named_line line ++ codes "\n"
+
+-- the lines of a text so, none left out
+unfoldable pub named_lines : List ℕ → List ℕ
+named_lines text = flat_map named_and_fed (lines_of text)
+
+-- the lines of the tables, with the names of the processes as texts
+abbrev pub tables_text : Xinu → List ℕ
+tables_text s = named_lines (text (tables_of s))

@@ -5,7 +5,7 @@ use Rattle.gdb_answers.specs.declared.stops.Stop.TheVariants.{Here}
 use Rattle.gdb_command.specs.Answered.{IsAnswered}
 use Rattle.gdb_command.specs.Console.{Shows}
 use Rattle.gdb_command.specs.Held.{Held}
-use Rattle.gdb_command.specs.Monitor.{event_text, help}
+use Rattle.gdb_command.specs.Monitor.{event_text, help, tables_text}
 use Rattle.gdb_command.specs.declared.asked.Asked.{Asked}
 use Rattle.gdb_command.specs.declared.asked.Asked.TheVariants as asked
 use Rattle.replayed_run.specs.Replayed.{Replayed, is_at_end}
@@ -15,7 +15,7 @@ use Rattle.xinu_base.specs.declared.events.End.TheVariants.{Schedule}
 use Rattle.xinu_base.specs.declared.lines.TranscriptLine.{TranscriptLine}
 use Rattle.xinu_model.specs.Machine.{Xinu}
 use Rattle.xinu_model.specs.Runs.{RunsTo}
-use Rattle.xinu_model.specs.Text.{tables_of, text}
+use Rattle.xinu_model.specs.Text.{text}
 
 -- The debugger's console is shown a text, and nothing else happens.
 pub record IsSaid (old new : Held) (text before after : List ℕ) : Type 0 where
@@ -54,7 +54,7 @@ pub record IsTranscribed (old new : Held) (before after : List ℕ) : Type 0 whe
 -- What `monitor` asks for is shown.
 abbrev pub IsShown : Asked → Held → Held → List ℕ → List ℕ → Type 0
 IsShown asked.Event old new before after = IsSaid old new (event_text old.run.replay) before after
-IsShown asked.Tables old new before after = IsSaid old new (text (tables_of old.run.replay.state)) before after
+IsShown asked.Tables old new before after = IsSaid old new (tables_text old.run.replay.state) before after
 IsShown asked.Transcript old new before after = IsTranscribed old new before after
 IsShown (asked.Goto count) old new before after = IsGone count old new before after
 IsShown asked.Help old new before after = IsSaid old new help before after

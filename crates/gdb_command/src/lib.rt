@@ -20,6 +20,7 @@ mod deeds;
 mod lines_so_far;
 mod looking;
 mod monitor;
+mod named_lines;
 mod output;
 mod serving;
 mod session;

@@ -3,14 +3,14 @@
 ghost use Rattle.std.specs.Prelude.{◌≡◌, OnOk};
 ghost use Rattle.gdb_command.specs.Console.{Shows};
 ghost use Rattle.gdb_command.specs.Held.{held};
-ghost use Rattle.gdb_command.specs.Monitor.{asked_by, event_text, event_word};
+ghost use Rattle.gdb_command.specs.Monitor.{asked_by, event_text, event_word, tables_text};
 ghost use Rattle.gdb_command.specs.Monitored.{IsGone, IsMonitored, IsShown, IsTranscribed};
 ghost use Rattle.gdb_packets.specs.Commands.{monitor_words};
-ghost use Rattle.xinu_model.specs.Text.{tables_of, text};
 ghost use Rattle.replayed_run.specs.Replayed.{IsSameRun};
 
 use crate::asked::{Asked, asked_by};
 use crate::lines_so_far::lines_so_far;
+use crate::named_lines::named_lines;
 use crate::output::push_print;
 use crate::session::Session;
 use gdb_answers::Stop;
@@ -68,10 +68,14 @@ impl Session {
 
     // Shows the tables.
     fn say_tables(&self, out: &mut Vec<u8>) -> Result<(), HostFault>
-        ensures says { OnOk result (Shows (text (tables_of self.now.run.replay.state)) out.old.items out.new.items) }
+        ensures says { OnOk result (Shows (tables_text self.now.run.replay.state) out.old.items out.new.items) }
     {
         match self.run.replay.tables() {
-            Ok(lines) => Ok(push_print(self.alloc, lines.bytes(), out)?),
+            Ok(lines) => {
+                let named = named_lines(self.alloc, lines.bytes())?;
+                push_print(self.alloc, named.as_slice(), out)?;
+                Ok(())
+            }
             Err(_) => Err(HostFault::NoMemory),
         }
     }
