@@ -43,13 +43,15 @@ impl Clocks {
         Ok(Clocks { knows, kept })
     }
 
-    /// Up to which event what `u` did comes before what `v` does next.
+    /// Up to which event what `u` did comes before what `v` does next. 0 if there is no process `u`.
     pub fn knows(&self, v: usize, u: usize) -> u32
         requires v_in { v < 64 }
-        requires u_in { u < 64 }
         ensures knows { result ≡ knows self.now v u }
     {
-        self.knows[v][u]
+        match self.knows[v].get(u) {
+            Some(n) => *n,
+            None => 0,
+        }
     }
 
     /// Up to which event what `u` did comes before the part whose clock has this name, or is in it.
@@ -65,7 +67,8 @@ impl Clocks {
     pub fn learn(&mut self, v: usize, name: usize)
         requires v_in { v < 64 }
         requires name_in { name < count self.old }
-        ensures learnt { (w u : ℕ) → knows self.new w u ≡ (if w == v then join (knows self.old v) (kept self.old name) u else knows self.old w u) }
+        ensures learnt { (w u : ℕ) →
+            knows self.new w u ≡ (if w == v then join (knows self.old v) (kept self.old name) u else knows self.old w u) }
         ensures kept { self.new.parts ≡ self.old.parts }
     {
         self.knows[v] = joined(&self.knows[v], &self.kept[name]);
@@ -79,7 +82,8 @@ impl Clocks {
     pub fn keep(&mut self, n: u32, u: usize) -> Result<usize, AllocError>
         requires u_in { u < 64 }
         ensures name { IfOk result (λ name. name ≡ count self.old) }
-        ensures kept { IfOk result (λ name. (k w : ℕ) → kept self.new k w ≡ (if k == name then own n u (knows self.old u) w else kept self.old k w)) }
+        ensures kept { IfOk result (λ name. (k w : ℕ) →
+            kept self.new k w ≡ (if k == name then own n u (knows self.old u) w else kept self.old k w)) }
         ensures count { IfOk result (λ name. count self.new ≡ count self.old + 1) }
         ensures knows { self.new.processes ≡ self.old.processes }
         ensures refused { OnErr result (self.new ≡ self.old) }

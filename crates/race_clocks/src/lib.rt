@@ -9,10 +9,12 @@
 //! | [`Clocks::keep_as`] | `kept`: the same under a name that is given up for it; it takes no memory |
 //! | [`Clocks::knows`], [`Clocks::kept`] | up to which event of another process a process, or a kept clock, knows |
 //!
-//! A clause sees [`Clocks`] as functions of processes and names (`Held` of `specs/Rows.antt`). A number is that of an event, at most
+//! A clause sees [`Clocks`] as rows, which `knows` and `kept` of `specs/Rows.antt` read as clocks of processes and names. The module
+//! [`laws`] says that a process learns of edges one by one as a detector does. A number is that of an event, at most
 //! 4294967295. A kept clock takes 256 bytes.
 #![tactic(auto)]
 
 mod clocks;
+pub mod laws;
 
 pub use clocks::Clocks;

@@ -1,0 +1,10 @@
+-- The entries so far are told.
+use Rattle.std.proofs.Common.{◌≡◌, ◌++◌, take}
+use Rattle.race_clocks.specs.Rows.{knows}
+use Rattle.race_entries.specs.Entries.{entries_of}
+use Rattle.race_detector.specs.Told.{told_of}
+use Rattle.race_detector.proofs.telling.tell.Given as goal
+
+abbrev pub invariant-loop-i : goal.invariant-loop-i
+invariant-loop-i l =
+    l.told.items ≡ l.initial.told.items ++ told_of (knows l.clocks l.access.process) l.access (take l.i (entries_of l.entries l.byte))
