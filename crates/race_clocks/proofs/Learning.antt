@@ -23,7 +23,7 @@ more_else : (parts : ℕ → ℕ → Clock) (edges : List Edge) (e : Edge) (v : 
 more_else parts edges e v c u test = ap (λ (d : Clock). d u)
     (learnt_more parts edges e v c ∙ ap (λ b. if b then join (learnt parts edges v c) (parts e.event e.source) else learnt parts edges v c) test)
 
-ne-eqb : (a b : ℕ) → a ≢ b → (a == b) ≡ false
+pub ne-eqb : (a b : ℕ) → a ≢ b → (a == b) ≡ false
 ne-eqb a b other = elim (eqb_tells a b) [
   | inl (_, same) ↦ absurd (other same)
   | inr (test, _) ↦ test

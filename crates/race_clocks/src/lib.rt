@@ -10,8 +10,9 @@
 //! | [`Clocks::knows`], [`Clocks::kept`] | up to which event of another process a process, or a kept clock, knows |
 //!
 //! A clause sees [`Clocks`] as rows, which `knows` and `kept` of `specs/Rows.antt` read as clocks of processes and names. The module
-//! [`laws`] says that a process learns of edges one by one as a detector does. A number is that of an event, at most
-//! 4294967295. A kept clock takes 256 bytes.
+//! [`laws`] says that edges are learnt one by one, those to the process that steps first, as a detector learns them.
+//!
+//! A number is that of an event, at most 4294967295. A kept clock takes 256 bytes.
 #![tactic(auto)]
 
 mod clocks;
