@@ -85,7 +85,7 @@ ROWS = [
 
 def is_right(program, folder, args, status, error, printed=b"", out=subprocess.PIPE):
     """Whether the program ends with this status, and prints these texts."""
-    ran = subprocess.run([program, *args], cwd=folder, stdout=out, stderr=subprocess.PIPE, check=False)
+    ran = subprocess.run([program, *args], cwd=folder, stdin=subprocess.DEVNULL, stdout=out, stderr=subprocess.PIPE, check=False)
     if (ran.returncode, ran.stdout or b"", ran.stderr) == (status, printed, error.encode()):
         return True
     print(f"{args}: status {ran.returncode}, {ran.stdout!r}, {ran.stderr!r}; not {status}, {printed!r}, {error!r}")

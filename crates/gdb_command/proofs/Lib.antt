@@ -9,4 +9,5 @@ pub mod Transcripts
 pub mod Writes
 pub mod Carried
 pub mod Reading
+pub mod Refused
 pub mod Moved

@@ -1,5 +1,5 @@
 -- The statement of what the command does. Read `Answers`, at the end, first; what a session does is in Serving.antt and Reads.antt.
-use Rattle.std.specs.Prelude.{◌≡◌, ◌⊎◌, ℕ, true, false, List, [], Option, Some, None, Result, Ok, Err, IfErr, map, codes}
+use Rattle.std.specs.Prelude.{◌≡◌, ◌⊎◌, ℕ, Bool, true, false, List, [], Option, Some, None, Result, Ok, Err, IfErr, map, codes}
 use Rattle.command_line.specs.Reading.{Taken, Text}
 use Rattle.command_words.specs.ToolNames.{cause_of}
 use Rattle.command_words.specs.Tools.{rows_of}
@@ -10,6 +10,7 @@ use Rattle.gdb_answers.specs.Threads.{shown_process}
 use Rattle.gdb_answers.specs.declared.stops.Stop.TheVariants.{Here}
 use Rattle.gdb_command.specs.Held.{held, standing}
 use Rattle.gdb_command.specs.Reads.{HasServedSome, HasServedStreams, Streams}
+use Rattle.gdb_command.specs.Refusing.{IsRefusedStream, error_packet}
 use Rattle.gdb_command.specs.declared.session.Session.{Session}
 use Rattle.given_disks.specs.Disks.{disks_of}
 use Rattle.host_port.specs.Outside.{Outside}
@@ -133,10 +134,29 @@ abbrev pub Tells : Option Cause → ℕ → Outside → Outside → Type 0
 Tells None exit mid new = (exit ≡ 0) × (new ≡ mid)
 Tells (Some c) exit mid new = TellsInWords (refusal_in c) (cause_meaning usage c) exit mid new
 
+-- whether a cause is that of inputs or arguments that were refused: a fault of the host or of a stream isn't, nor is a lack of memory
+abbrev pub is_refused : Cause → Bool
+is_refused (cause.Refused refusal.HostFault) = false
+is_refused (cause.Refused refusal.NoMemory) = false
+is_refused _ = true
+
+-- Each packet is answered with an error, if it is to be so; else nothing is read or written.
+abbrev pub RefusesIf : Bool → List ℕ → Streams → Streams → Type 0
+RefusesIf true error before after = IsRefusedStream error before after
+RefusesIf false error before after = after ≡ before
+
+-- If the inputs or the arguments were refused, each packet is answered with an error that says what the cause means.
+abbrev pub IsRefusedTo : Option Cause → Streams → Streams → Type 0
+IsRefusedTo None before after = after ≡ before
+IsRefusedTo (Some c) before after = RefusesIf (is_refused c) (error_packet (cause_meaning usage c)) before after
+
 -- The theorem. The command was carried out as its arguments ask (`carries`): what was written answers what was read, by a run of the inputs that the
--- files gave. Then, in the world that this left, its end was told by a status, and a cause by its text and lines after it.
+-- files gave. Then, in the world that this left, its end was told by a status, and a cause by its text and lines after it (`tells`), and to the
+-- debugger (`refuses`).
 pub record Answers (exit : ℕ) (args : List Text) (old new : Outside) (before after : Streams) : Type 0 where
   pub ended : Option Cause
   pub mid : Outside
-  pub carries : Carries (words_of (rows_of Gdb) args) ended old mid before after
+  pub between : Streams
+  pub carries : Carries (words_of (rows_of Gdb) args) ended old mid before between
   pub tells : Tells ended exit mid new
+  pub refuses : IsRefusedTo ended between after

@@ -6,5 +6,6 @@ pub mod Held
 pub mod Monitor
 pub mod Monitored
 pub mod Reads
+pub mod Refusing
 pub mod Serving
 pub mod Transcripts

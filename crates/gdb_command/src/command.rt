@@ -4,15 +4,19 @@ ghost use Rattle.std.specs.Prelude.{◌≡◌, ◌≤◌, IfErr, IfOk, Ok, OnErr
 ghost use Rattle.command_words.specs.ToolNames.{taken_words};
 ghost use Rattle.command_words.specs.Tools.{rows_of};
 ghost use Rattle.command_words.specs.Words.{words_of};
-ghost use Rattle.gdb_command.specs.Debugging.{Answers, Carries, Continues, Goes, IsRunServed, Obeys, Tells, ended_by};
+ghost use Rattle.gdb_command.specs.Debugging.{Answers, Carries, Continues, Goes, IsRefusedTo, IsRunServed, Obeys, ended_by, usage};
+ghost use Rattle.gdb_command.specs.Debugging as debugging;
+ghost use Rattle.gdb_command.specs.Refusing.{HasRefused, HasRefusedSome, error_packet};
+ghost use Rattle.refusal_words.specs.Meanings.{cause_meaning};
 ghost use Rattle.run_inputs.specs.Conversions.{host_refusal};
 ghost use Rattle.run_inputs.specs.InputFaults.{have_fault};
 
+use crate::refusing::refuse_packets;
 use crate::serving::serve;
 use crate::session::Session;
 use command_words::{Taken, Tool};
-use host_port::Host;
-use refusal_words::tell_cause;
+use host_port::{Host, HostFault};
+use refusal_words::{meaning, tell_cause};
 use replayed_run::Replay;
 use run_inputs::{Cause, Inputs, Refusal, fetch_words, read_words};
 use std::alloc::Global;
@@ -25,7 +29,8 @@ const USAGE: &str = "--schedule FILE [--disk0 FILE] [--disk1 FILE] IMAGE ..";
 ///
 /// The status is 0 once the debugger has gone away, ended the session, or closed the input. Else it is the status with which `run` refuses
 /// such arguments and files, and its text is sent on Fault, with a line after it that says it in words: 2 if the arguments aren't those of the
-/// command; 3 also if the input or the output failed; 7 if memory ran out.
+/// command; 3 also if the input or the output failed; 7 if memory ran out. If the arguments or the files were refused, each packet is then
+/// acknowledged and answered with an error, `E.` and the first line of those words, until the debugger ends the session or closes the input.
 pub fn debug<H: Host, R: Read, W: Write>(
     alloc: Global,
     args: &[String],
@@ -37,7 +42,11 @@ pub fn debug<H: Host, R: Read, W: Write>(
 {
     match carry_out(alloc, args, host, input, output) {
         Ok(()) => 0,
-        Err(cause) => told(alloc, cause, host),
+        Err(cause) => {
+            let status = tell_cause(alloc, cause, USAGE, host);
+            tell_debugger(alloc, cause, input, output);
+            status
+        }
     }
 }
 
@@ -129,9 +138,37 @@ fn served<R: Read, W: Write>(
     }
 }
 
-// Sends the text of a cause's refusal and what the cause means, and answers the status.
-fn told<H: Host>(alloc: Global, cause: Cause<'_>, host: &mut H) -> u8
-    ensures tells { Tells (Some cause.entry) result (H.view host.old) (H.view host.new) }
+// Answers packets with what a cause means, unless it is that of a fault of the host or a lack of memory. What it answers ends if a stream fails or
+// memory runs out.
+fn tell_debugger<R: Read, W: Write>(alloc: Global, cause: Cause<'_>, input: &mut R, output: &mut W)
+    ensures refuses { IsRefusedTo (Some cause.entry) (record { left = R.remaining input.old; written = W.contents output.old }) (record { left = R.remaining input.new; written = W.contents output.new }) }
 {
-    tell_cause(alloc, cause, USAGE, host)
+    if !is_refused(cause) {
+        return;
+    }
+    let _ = say_why(alloc, cause, input, output);
+}
+
+// Whether a cause is that of inputs or arguments that were refused.
+fn is_refused(cause: Cause<'_>) -> bool
+    ensures refused { result ≡ debugging.is_refused cause.entry }
+{
+    !matches!(
+        cause,
+        Cause::Refused(Refusal::HostFault | Refusal::NoMemory)
+    )
+}
+
+// Answers packets with what a cause means.
+fn say_why<R: Read, W: Write>(
+    alloc: Global,
+    cause: Cause<'_>,
+    input: &mut R,
+    output: &mut W,
+) -> Result<(), HostFault>
+    ensures refuses { OnOk result (HasRefused (error_packet (cause_meaning usage cause.entry)) (record { left = R.remaining input.old; written = W.contents output.old }) (record { left = R.remaining input.new; written = W.contents output.new })) }
+    ensures cut { OnErr result (HasRefusedSome (error_packet (cause_meaning usage cause.entry)) (record { left = R.remaining input.old; written = W.contents output.old }) (record { left = R.remaining input.new; written = W.contents output.new })) }
+{
+    let text = meaning(alloc, cause, USAGE)?;
+    refuse_packets(alloc, text.as_slice(), input, output)
 }

@@ -7,7 +7,7 @@
 //!
 //! | Call | Promise |
 //! |---|---|
-//! | [`debug`] | `debugs`: by a run of the inputs that `run` would fetch, what was written answers what was read, packet by packet: to the end of the session or the input at status 0, else up to a fault; and the cause is told |
+//! | [`debug`] | `debugs`: by a run of the inputs that `run` would fetch, what was written answers what was read, packet by packet: to the end of the session or the input at status 0, else up to a fault; and the cause is told, to the debugger too if the inputs were refused |
 //!
 //! Which process is looked at, what `monitor` shows, acknowledgements, and what is sent again are part of it (`IsServed`). A packet that moves the
 //! run is answered with the stop at which `go_on` or `go_back` of `watched_run` stopped, for the goal that it names, and with the process of that
@@ -22,6 +22,7 @@ mod looking;
 mod monitor;
 mod named_lines;
 mod output;
+mod refusing;
 mod serving;
 mod session;
 mod units;

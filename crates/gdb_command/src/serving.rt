@@ -50,8 +50,11 @@ fn serve_once<R: Read, W: Write>(
     Ok(true)
 }
 
-// Appends what is read at once. Whether the input goes on.
-fn read_more<R: Read>(bytes: &mut Vec<u8>, input: &mut R) -> Result<bool, HostFault>
+/// Appends what is read at once. Whether the input goes on.
+///
+/// # Errors
+/// `Failed` if the stream failed; `NoMemory`.
+pub(crate) fn read_more<R: Read>(bytes: &mut Vec<u8>, input: &mut R) -> Result<bool, HostFault>
     ensures reads { IfOk result (λ goes. ReadsMore goes bytes.old.items bytes.new.items (R.remaining input.old) (R.remaining input.new)) }
     ensures some { OnErr result (ReadsSome (R.remaining input.old) (R.remaining input.new)) }
 {
@@ -65,8 +68,11 @@ fn read_more<R: Read>(bytes: &mut Vec<u8>, input: &mut R) -> Result<bool, HostFa
     }
 }
 
-// Writes bytes.
-fn write<W: Write>(output: &mut W, bytes: &[u8]) -> Result<(), HostFault>
+/// Writes bytes.
+///
+/// # Errors
+/// `Failed` if the stream failed.
+pub(crate) fn write<W: Write>(output: &mut W, bytes: &[u8]) -> Result<(), HostFault>
     ensures whole { OnOk result (Appends (W.contents output.old) (W.contents output.new) bytes.now) }
     ensures part { OnErr result ((n : ℕ) × Appends (W.contents output.old) (W.contents output.new) (take n bytes.now)) }
 {

@@ -118,8 +118,8 @@ fn stops_acks(command: Command) -> bool
     matches!(command, Command::NoAcks)
 }
 
-// Whether the session ends with a command.
-fn ends_session(command: Command) -> bool
+/// Whether the session ends with a command.
+pub(crate) fn ends_session(command: Command) -> bool
     ensures ends { result ≡ deeds.ends_session command }
 {
     matches!(command, Command::Kill | Command::Detach)
