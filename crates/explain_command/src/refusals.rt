@@ -1,14 +1,17 @@
 //! Calls that were refused: each kind once, with its reason.
 
 ghost use Rattle.std.specs.Prelude.{◌≡◌, IfOk};
+ghost use Rattle.refusal_reasons.specs.Later.{later_reason};
 ghost use Rattle.refusal_reasons.specs.Reasons.{reason};
+ghost use Rattle.xinu_model.specs.Tables.{process_at};
 
 use crate::places::{add_function, shown};
-use crate::sights::{Sight, look, place_line};
+use crate::sights::{Deed, Sight, look, place_line};
 use crate::steps::add_call;
+use crate::whereabouts::place_of;
 use machine::KernelState;
 use printed_runs::Text;
-use refusal_reasons::{Reason, reason_of};
+use refusal_reasons::{Reason, later_reason_of, reason_of};
 use replayed_run::Replay;
 use run_story::Story;
 use std::alloc::{AllocError, Global};
@@ -44,7 +47,7 @@ impl Refusals {
         }
     }
 
-    /// Notes the call that the next step makes, if it is refused in that step.
+    /// Notes the call that the next step makes or goes on in, if it is refused in that step.
     pub(crate) fn note(&mut self, replay: &Replay) {
         if makes_call(replay.state()) {
             let seen = look(replay);
@@ -53,6 +56,8 @@ impl Refusals {
                 Ok(None) => {}
                 Err(_) => self.is_whole = false,
             }
+        } else if let Some(reason) = reason_left(replay) {
+            self.add(reason, &look(replay));
         }
     }
 
@@ -105,6 +110,13 @@ fn makes_call(k: &KernelState) -> bool {
     process != 0 && k.tables.is_done() && k.ram.read32(k.harts[process].pc) == Some(ECALL)
 }
 
+// Why the call is refused in which the current process goes on next, if it goes on in one and is refused.
+fn reason_left(replay: &Replay) -> Option<Reason>
+    ensures reason { result ≡ later_reason (process_at replay.now.state.tables replay.now.state.tables.current).rest replay.now.state }
+{
+    later_reason_of(replay.state())
+}
+
 // Why the call is refused that is made next, if it is.
 fn reason_seen(replay: &Replay, seen: &Sight) -> Result<Option<Reason>, AllocError>
     ensures reason { IfOk result (λ r. r ≡ reason seen.now.call.number seen.now.call.args replay.now.state) }
@@ -135,8 +147,9 @@ fn add_kind(text: &mut Text, kind: &Kind, story: &Story, files: &[Vec<u8>]) {
         text.numbered("; it was refused so ", kind.count);
         text.put(" times");
     }
+    let pc = place_of(&seen.hart, matches!(seen.deed, Deed::GoesOn));
     text.put("; ");
-    text.put(shown(place_line(seen.hart.pc).bytes()));
-    add_function(text, ", ", files, seen.hart.pc);
+    text.put(shown(place_line(pc).bytes()));
+    add_function(text, ", ", files, pc);
     text.put("\n");
 }

@@ -74,8 +74,8 @@ fn call_asked(hart: &Hart) -> Call
     }
 }
 
-// The address of the instruction that made a call, or of the next instruction.
-fn place_of(hart: &Hart, is_waiting: bool) -> u32
+/// The address of the instruction that made a call, or of the next instruction.
+pub(crate) fn place_of(hart: &Hart, is_waiting: bool) -> u32
     ensures place { result ≡ place_of hart.now is_waiting }
 {
     if is_waiting {

@@ -1,10 +1,12 @@
 -- A call that waited is answered -1 as it goes on if and only if it has a later reason.
 use Rattle.std.proofs.Common.{◌≡◌, ◌∙◌, ◌↔◌, ℕ, suc, ◌+◌, ◌-◌, ◌==◌, Bool, true, false, not, cond, ◌||◌, List, [], ◌∷◌, refl, sym, ap, Option, Some, None, IsSome}
 use Rattle.std.specs.Prelude.{is_some, nat_le, slice_index}
+use Rattle.std.proofs.lemmas.Bool.{cond-false, cond_both, ne_eqb}
+use Rattle.event_laws.proofs.Ownership.Events.{done_rest}
 use Rattle.event_laws.specs.Replies.{first_of}
 use Rattle.event_laws.proofs.Reply.Continued.{put_byte_never, read_item_never, reads_never, take_char_never, writes_never}
 use Rattle.refusal_reasons.specs.Causes.{cause, answers_minus_one, is_minus_one_message}
-use Rattle.refusal_reasons.specs.Later.{is_empty, later_causes, later_reason}
+use Rattle.refusal_reasons.specs.Later.{GoesOn, is_empty, later_causes, later_reason}
 use Rattle.refusal_reasons.specs.declared.reasons.Reason.TheVariants as why
 use Rattle.refusal_reasons.proofs.Calls.{received_told}
 use Rattle.refusal_reasons.proofs.Combined.{Tells, tells, neither, value_told}
@@ -18,7 +20,8 @@ use Rattle.xinu_model.specs.Calls.{continued}
 use Rattle.xinu_model.specs.Console.Constants.{TY_NEWLINE}
 use Rattle.xinu_model.specs.Console.Putting.{put, writes}
 use Rattle.xinu_model.specs.Console.Taking.{console_of, reads}
-use Rattle.xinu_model.specs.Machine.{Xinu, Returns, Panics, start, returns, refused, goes_on}
+use Rattle.xinu_model.specs.Events.{instruction_step, is_done, stepped}
+use Rattle.xinu_model.specs.Machine.{Xinu, EventResult, Returns, Panics, end_of_event, nothing_happens, start, returns, refused, goes_on}
 use Rattle.xinu_model.specs.Messages.{held}
 use Rattle.xinu_model.specs.Pools.Buffers.{pool_at}
 use Rattle.xinu_model.specs.Pools.Calls.{take_first}
@@ -88,6 +91,16 @@ later_told (rest.TtyWrite part false) s =
 later_told (rest.Disk None) s = tells refl
 later_told (rest.Disk (Some reply)) s = value_told why.DiskRefused reply _
 later_told rest.Nothing s = tells refl
+
+-- A process that goes on does so in the state ahead of the event.
+pub goes_on_ahead : (s : Xinu) → GoesOn s → stepped s ≡ end_of_event s.tables.current [] (continued (process_at s.tables s.tables.current).rest s)
+goes_on_ahead s g =
+    let left = (process_at s.tables s.tables.current).rest in
+    let step = end_of_event s.tables.current [] (continued left s) in
+    cond-false (s.tables.current == 0) (nothing_happens s) (cond (is_done left) (instruction_step s) step) (ne_eqb s.tables.current 0 g.runs)
+    ∙ cond_both (is_done left) (instruction_step s) step (λ (x : EventResult). x ≡ step)
+    (λ done. absurd (g.left (done_rest left done)))
+    (λ _. refl)
 
 pub later_refusals : (left : Rest) (s : Xinu) → ((continued left s).answer ≡ Returns SYSERR ↔ IsSome (later_reason left s))
 later_refusals left s =

@@ -6,6 +6,7 @@ pub mod Combined
 pub mod Counted
 pub mod Signs
 pub mod Effects
+pub mod Emptiness
 pub mod Later
 pub mod Rows
 pub mod Switch

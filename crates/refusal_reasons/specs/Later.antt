@@ -1,11 +1,12 @@
 -- Why a call is refused later: as one that waited goes on, as a call on files takes effect, and as the raw disk completes a request.
-use Rattle.std.specs.Prelude.{ℕ, ◌==◌, nat_le, nat_lt, Bool, true, false, not, ◌&&◌, List, [], ◌∷◌, length, Option, None, Some, is_some, ℤ, pos, int_lt}
+use Rattle.std.specs.Prelude.{◌≢◌, ℕ, ◌==◌, nat_le, nat_lt, Bool, true, false, not, ◌&&◌, List, [], ◌∷◌, length, Option, None, Some, is_some, ℤ, pos, int_lt}
 use Rattle.event_laws.specs.Replies.{first_of}
 use Rattle.refusal_reasons.specs.Causes.{cause, first_reason, is_minus_one, is_minus_one_message, is_negative}
 use Rattle.refusal_reasons.specs.declared.reasons.Cause.{Cause}
 use Rattle.refusal_reasons.specs.declared.reasons.Reason.{Reason}
 use Rattle.refusal_reasons.specs.declared.reasons.Reason.TheVariants as why
 use Rattle.xinu_base.specs.declared.files.OpenMode.{OpenMode}
+use Rattle.xinu_base.specs.declared.processes.PortTicket.{PortTicket}
 use Rattle.xinu_base.specs.declared.processes.Rest.{Rest}
 use Rattle.xinu_base.specs.declared.processes.Rest.TheVariants as rest
 use Rattle.xinu_model.specs.Files.Calls.{FileCall, Open, Delete, Close, Read, Write, Getc, Putc, Seek, Truncate, Size}
@@ -29,25 +30,31 @@ abbrev pub is_minus_one_reply : Option ℤ → Bool
 is_minus_one_reply None = false
 is_minus_one_reply (Some reply) = is_minus_one reply
 
+-- the port of a call was reset, deleted or made anew since the call began
+abbrev pub renewed : PortTicket → Xinu → Cause
+renewed ticket s = cause why.PortRenewed (is_stale ticket s.parts.ports)
+
 -- What is left of a call, as it goes on. A pool or a port without what was waited for is never reached in a sound state.
 abbrev pub later_causes : Rest → Xinu → List Cause
 later_causes rest.Receive s = cause why.MessageIsMinusOne (is_minus_one_message (held s)) ∷ []
 later_causes rest.Timed s = cause why.MessageIsMinusOne (is_minus_one_message (held s)) ∷ []
 later_causes rest.SelfSuspend s = cause why.PriorityIsMinusOne (is_minus_one (process_at s.tables s.tables.current).priority) ∷ []
 later_causes (rest.GetBuf i) s = cause why.NoFreeBuffer (is_empty (pool_at s.parts.pools i).free) ∷ []
-later_causes (rest.PtSend ticket message) s = cause why.PortRenewed (is_stale ticket s.parts.ports) ∷ []
+later_causes (rest.PtSend ticket message) s = renewed ticket s ∷ []
 later_causes (rest.PtRecv ticket) s =
     let messages = queued (port_at s.parts.ports ticket.port).queue in
-    cause why.PortRenewed (is_stale ticket s.parts.ports)
-    ∷ cause why.NoMessage (is_empty messages)
-    ∷ cause why.MessageIsMinusOne (is_minus_one_message (first_of messages))
-    ∷ []
+    renewed ticket s ∷ cause why.NoMessage (is_empty messages) ∷ cause why.MessageIsMinusOne (is_minus_one_message (first_of messages)) ∷ []
 later_causes (rest.Disk reply) s = cause why.DiskRefused (is_minus_one_reply reply) ∷ []
 later_causes _ s = []
 
 -- Why a call that waited is answered -1 as it goes on, if it is.
 abbrev pub later_reason : Rest → Xinu → Option Reason
 later_reason left s = first_reason (later_causes left s)
+
+-- In its next step the current process goes on in a call: it isn't the null process, and something is left of its call.
+pub record GoesOn (s : Xinu) : Type 0 where
+  pub runs : s.tables.current ≢ 0
+  pub left : (process_at s.tables s.tables.current).rest ≢ rest.Nothing
 
 -- whether a device has a file open that may be read, or written
 abbrev pub may_read : Option OpenFile → Bool

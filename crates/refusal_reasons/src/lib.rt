@@ -8,9 +8,10 @@
 //! | Law or call | Promise |
 //! |---|---|
 //! | [`laws::refusals_have_reasons`] | `calls`: a call of any number, with any arguments, is answered -1 in its event if and only if it has a reason; `first`: the first of its causes that holds gives it; `ahead`: it can be read off the state ahead of the event |
-//! | [`laws::later_refusals_have_reasons`] | the same of what is left of a call that waited, as it goes on |
+//! | [`laws::later_refusals_have_reasons`] | `calls`: the same of what is left of a call that waited, as it goes on; `ahead`: it goes on in the state ahead of the event |
 //! | [`laws::refused_effects_have_reasons`] | the same of a call on files as it takes effect, and of a completion of the raw disk |
 //! | [`reason_of`] | `reason`: the reason of a call in a state, or memory ran out |
+//! | [`later_reason_of`] | `reason`: the later reason of what is left of the current process's call in a state |
 //! | [`Reason::words`] | the reason in plain English |
 //!
 //! A call that waits is answered later: it has no reason in its event. The later reasons are in `specs/Later.antt`.
@@ -20,6 +21,7 @@ mod asked;
 mod clock_causes;
 mod device_causes;
 mod file_causes;
+mod later_causes;
 pub mod laws;
 mod looks;
 mod memory_causes;
@@ -34,4 +36,5 @@ mod semaphore_causes;
 mod words;
 
 pub use asked::reason_of;
+pub use later_causes::later_reason_of;
 pub use reasons::{Cause, Reason};
