@@ -1,3 +1,5 @@
 pub mod Alike
+pub mod Elements
 pub mod Learnt
 pub mod Listing
+pub mod Pairs
