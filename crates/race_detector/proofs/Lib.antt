@@ -3,3 +3,5 @@ pub mod Elements
 pub mod Learnt
 pub mod Listing
 pub mod Pairs
+pub mod Passing
+pub mod Reaching

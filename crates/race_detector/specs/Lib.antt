@@ -1,2 +1,3 @@
+pub mod Detects
 pub mod Finds
 pub mod Told
