@@ -6,7 +6,9 @@ ghost use Rattle.happens_before.specs.Histories.{Access, Edge, Given, Moment};
 ghost use Rattle.happens_before.specs.Races.{deed_at, time};
 ghost use Rattle.race_clocks.specs.Rows.{count, kept, knows};
 ghost use Rattle.race_detector.specs.Detects.{Detects, HasLearnt, IsAccess, IsSource, Reaches};
+ghost use Rattle.race_detector.specs.Sources.{AreSources, AreWithin};
 
+use crate::known::Known;
 use crate::pair::Pair;
 use crate::telling::tell;
 use race_clocks::Clocks;
@@ -51,6 +53,21 @@ impl Detector {
         ensures told { self.new.told ≡ self.old.told }
     {
         self.clocks.learn(process, name);
+    }
+
+    /// Edges come, one after another.
+    pub fn learn_all(&mut self, edges: &[Known])
+        requires within { AreWithin edges.now self.old }
+        ensures learnt { (parts : ℕ → ℕ → Clock) (before : ℕ → Clock) (done more : List Edge) →
+            AreSources parts more edges.now self.old → HasLearnt parts before done self.old →
+            HasLearnt parts before (done ++ more) self.new }
+        ensures kept { self.new.clocks.parts ≡ self.old.clocks.parts }
+        ensures entries { self.new.entries ≡ self.old.entries }
+        ensures told { self.new.told ≡ self.old.told }
+    {
+        for edge in edges {
+            self.learn(edge.process, edge.name);
+        }
     }
 
     /// Keeps the clock of a process's part in event `n`, and answers its name.

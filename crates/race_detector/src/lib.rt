@@ -6,6 +6,7 @@
 //! | [`Detector::new`] | `start`: it is a detector of the history in which nothing happens; or memory ran out |
 //! | [`Detector::keep`], [`Detector::keep_as`] | `kept`: the clock of a part has a name; or memory ran out |
 //! | [`Detector::learn`] | `learnt`: one more edge has come, if the name is that of its source |
+//! | [`Detector::learn_all`] | `learnt`: more edges have come, if the names are those of their sources |
 //! | [`Detector::access`], [`Detector::give`] | `reached`: one more deed is done: the entries and what is told are those of the history; or memory ran out |
 //! | [`Detector::told`] | what is told so far |
 //! | [`tell`] | `told`: the pairs that are told as an access is made come after those that were told, and `only`: each entry of the byte is the last access of its kind and process; or memory ran out |
@@ -17,11 +18,13 @@
 
 mod detector;
 pub mod finding;
+mod known;
 pub mod laws;
 pub mod moments;
 mod pair;
 mod telling;
 
 pub use detector::Detector;
+pub use known::Known;
 pub use pair::Pair;
 pub use telling::tell;
