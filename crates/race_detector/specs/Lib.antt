@@ -1,1 +1,4 @@
+pub mod Detects
+pub mod Finds
+pub mod Sources
 pub mod Told

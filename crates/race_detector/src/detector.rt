@@ -1,0 +1,138 @@
+//! A detector that is told what a run does, call by call.
+
+ghost use Rattle.std.specs.Prelude.{◌≡◌, ◌<◌, ◌≤◌, ◌+◌, ◌++◌, ◌∷◌, [], ◌==◌, ℕ, suc, List, IfOk, OnOk, Some, if◌then◌else◌};
+ghost use Rattle.happens_before.specs.Clocks.{Clock, own};
+ghost use Rattle.happens_before.specs.Histories.{Access, Edge, Given, Moment};
+ghost use Rattle.happens_before.specs.Races.{deed_at, time};
+ghost use Rattle.race_clocks.specs.Rows.{count, kept, knows};
+ghost use Rattle.race_detector.specs.Detects.{Detects, HasLearnt, IsAccess, IsSource, Reaches};
+ghost use Rattle.race_detector.specs.Sources.{AreSources, AreWithin};
+
+use crate::known::Known;
+use crate::pair::Pair;
+use crate::telling::tell;
+use race_clocks::Clocks;
+use race_entries::{Entries, Entry};
+use std::alloc::{AllocError, Global};
+
+/// The clocks, the last accesses, and what is told so far.
+#[derive(Drop)]
+pub struct Detector {
+    clocks: Clocks,
+    entries: Entries,
+    told: Vec<Pair>,
+}
+
+impl Detector {
+    /// Nothing has happened.
+    ///
+    /// # Errors
+    ///
+    /// Out of memory.
+    pub fn new(alloc: Global) -> Result<Detector, AllocError>
+        ensures start { IfOk result (λ x. Detects [] x) }
+    {
+        let clocks = Clocks::new(alloc)?;
+        let entries = Entries::new(alloc)?;
+        let told = Vec::new(alloc);
+        Ok(Detector {
+            clocks,
+            entries,
+            told,
+        })
+    }
+
+    /// An edge comes to a process from the part whose clock has this name.
+    pub fn learn(&mut self, process: usize, name: usize)
+        requires process_in { process < 64 }
+        requires name_in { name < count self.old.clocks }
+        ensures learnt { (parts : ℕ → ℕ → Clock) (before : ℕ → Clock) (edges : List Edge) (e : Edge) → e.target ≡ process →
+            IsSource parts e name self.old → HasLearnt parts before edges self.old → HasLearnt parts before (edges ++ e ∷ []) self.new }
+        ensures kept { self.new.clocks.parts ≡ self.old.clocks.parts }
+        ensures entries { self.new.entries ≡ self.old.entries }
+        ensures told { self.new.told ≡ self.old.told }
+    {
+        self.clocks.learn(process, name);
+    }
+
+    /// Edges come, one after another.
+    pub fn learn_all(&mut self, edges: &[Known])
+        requires within { AreWithin edges.now self.old }
+        ensures learnt { (parts : ℕ → ℕ → Clock) (before : ℕ → Clock) (done more : List Edge) →
+            AreSources parts more edges.now self.old → HasLearnt parts before done self.old →
+            HasLearnt parts before (done ++ more) self.new }
+        ensures kept { self.new.clocks.parts ≡ self.old.clocks.parts }
+        ensures entries { self.new.entries ≡ self.old.entries }
+        ensures told { self.new.told ≡ self.old.told }
+    {
+        for edge in edges {
+            self.learn(edge.process, edge.name);
+        }
+    }
+
+    /// Keeps the clock of a process's part in event `n`, and answers its name.
+    ///
+    /// # Errors
+    ///
+    /// Out of memory: all is as it was.
+    pub fn keep(&mut self, n: u32, process: usize) -> Result<usize, AllocError>
+        requires process_in { process < 64 }
+        ensures kept { IfOk result (λ name. (k w : ℕ) → kept self.new.clocks k w ≡
+            (if k == name then own n process (knows self.old.clocks process) w else kept self.old.clocks k w)) }
+        ensures count { IfOk result (λ name. count self.new.clocks ≡ count self.old.clocks + 1) }
+        ensures name { IfOk result (λ name. name ≡ count self.old.clocks) }
+        ensures knows { self.new.clocks.processes ≡ self.old.clocks.processes }
+        ensures entries { self.new.entries ≡ self.old.entries }
+        ensures told { self.new.told ≡ self.old.told }
+    {
+        self.clocks.keep(n, process)
+    }
+
+    /// Keeps the clock of a process's part in event `n` under a name, in place of the clock that had it.
+    pub fn keep_as(&mut self, name: usize, n: u32, process: usize)
+        requires name_in { name < count self.old.clocks }
+        requires process_in { process < 64 }
+        ensures kept { (k w : ℕ) → kept self.new.clocks k w ≡
+            (if k == name then own n process (knows self.old.clocks process) w else kept self.old.clocks k w) }
+        ensures count { count self.new.clocks ≡ count self.old.clocks }
+        ensures knows { self.new.clocks.processes ≡ self.old.clocks.processes }
+        ensures entries { self.new.entries ≡ self.old.entries }
+        ensures told { self.new.told ≡ self.old.told }
+    {
+        self.clocks.keep_as(name, n, process);
+    }
+
+    /// An access to a byte: tells what it races with, and enters it.
+    ///
+    /// # Errors
+    ///
+    /// Out of memory: some may be told.
+    pub fn access(&mut self, byte: usize, access: Entry) -> Result<(), AllocError>
+        requires byte_in { byte < 1048576 }
+        requires process_in { access.process < 64 }
+        ensures reached { OnOk result ((h : List Moment) (n j : ℕ) (a : Access) → IsAccess h n j a byte access self.old →
+            Reaches h n j self.old → Reaches h n (suc j) self.new) }
+        ensures clocks { self.new.clocks ≡ self.old.clocks }
+    {
+        tell(&self.clocks, &self.entries, byte, access, &mut self.told)?;
+        self.entries.enter(byte, access)?;
+        Ok(())
+    }
+
+    /// So many bytes get a new owner.
+    pub fn give(&mut self, first: usize, count: usize)
+        requires bytes_in { first + count ≤ 1048576 }
+        ensures reached { (h : List Moment) (n j : ℕ) → deed_at h (time n j) ≡ Some (Given first count) →
+            Reaches h n j self.old → Reaches h n (suc j) self.new }
+        ensures clocks { self.new.clocks ≡ self.old.clocks }
+    {
+        self.entries.give(first, count);
+    }
+
+    /// What is told so far, in the order in which it was told.
+    pub fn told(&self) -> &[Pair]
+        ensures told { result.now ≡ self.now.told.items }
+    {
+        &self.told
+    }
+}
