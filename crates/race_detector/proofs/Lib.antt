@@ -7,3 +7,4 @@ pub mod Many
 pub mod Pairs
 pub mod Passing
 pub mod Reaching
+pub mod Standing
