@@ -1,3 +1,4 @@
+pub mod Acting
 pub mod Alike
 pub mod Elements
 pub mod Learnt
@@ -6,3 +7,4 @@ pub mod Many
 pub mod Pairs
 pub mod Passing
 pub mod Reaching
+pub mod Standing

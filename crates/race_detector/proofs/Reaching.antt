@@ -26,7 +26,7 @@ pub access_reached : (old new : Detector) (byte : ℕ) (e : Entry)
     → ((k : ℕ) (f : Entry) → slice_get (entries_of old.entries byte) k ≡ Some f → last old.entries f.stores byte f.process ≡ Some f)
     → ((stores : Bool) (b u : ℕ)
     → last new.entries stores b u ≡ (if (b == byte) && is_by stores u e then Some e else last old.entries stores b u))
-    → (h : List Moment) (n j : ℕ) (a : Access) → IsAccess h n j a byte e old → Reaches h n j old → Reaches h n (suc j) new
+    → (h : List Moment) (n j : ℕ) (a : Access) → IsAccess h n j a byte e old.clocks → Reaches h n j old → Reaches h n (suc j) new
 access_reached old new byte e tells only enters h n j a is at =
     let Only : ℕ → Type 0 = λ b. (k : ℕ) (f : Entry) → slice_get (entries_of old.entries b) k ≡ Some f → last old.entries f.stores b f.process ≡ Some f in
     let Enters : ℕ → Type 0 = λ c. (stores : Bool) (b u : ℕ) → last new.entries stores b u ≡ (if (b == c) && is_by stores u e then Some e else last old.entries stores b u) in

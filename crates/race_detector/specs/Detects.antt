@@ -4,7 +4,7 @@ use Rattle.happens_before.specs.Clocks.{Clock, clocks_after, learnt}
 use Rattle.happens_before.specs.Histories.{Access, Accessed, Edge, Moment}
 use Rattle.happens_before.specs.Races.{Made, deed_at, time}
 use Rattle.happens_before.specs.Told.{entries_after, entries_at}
-use Rattle.race_clocks.specs.Rows.{kept, knows}
+use Rattle.race_clocks.specs.Rows.{Held, kept, knows}
 use Rattle.race_detector.specs.Finds.{Finds}
 use Rattle.race_detector.specs.Told.{Knows}
 use Rattle.race_detector.specs.declared.detector.Detector.{Detector}
@@ -29,11 +29,11 @@ pub record Reaches (h : List Moment) (n j : ℕ) (x : Detector) : Type 0 where
   pub told : Finds h (time n j) x.told.items
 
 -- Deed j of event n is access a, of which this is the byte and the entry, and its process knows what its part in the event knows.
-pub record IsAccess (h : List Moment) (n j : ℕ) (a : Access) (byte : ℕ) (e : Entry) (x : Detector) : Type 0 where
+pub record IsAccess (h : List Moment) (n j : ℕ) (a : Access) (byte : ℕ) (e : Entry) (clocks : Held) : Type 0 where
   pub deed : deed_at h (time n j) ≡ Some (Accessed a)
   pub same : byte ≡ a.byte
   pub entry : e ≡ made_entry (made_at n j a)
-  pub known : Knows h (made_at n j a) (knows x.clocks e.process)
+  pub known : Knows h (made_at n j a) (knows clocks e.process)
 
 -- All moments of a history are done.
 pub record Detects (h : List Moment) (x : Detector) : Type 0 where

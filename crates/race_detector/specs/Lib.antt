@@ -1,3 +1,4 @@
+pub mod Acts
 pub mod Detects
 pub mod Finds
 pub mod Sources

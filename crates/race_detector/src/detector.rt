@@ -1,13 +1,15 @@
 //! A detector that is told what a run does, call by call.
 
-ghost use Rattle.std.specs.Prelude.{◌≡◌, ◌<◌, ◌≤◌, ◌+◌, ◌++◌, ◌∷◌, [], ◌==◌, ℕ, suc, List, IfOk, OnOk, Some, if◌then◌else◌};
+ghost use Rattle.std.specs.Prelude.{◌≡◌, ◌<◌, ◌≤◌, ◌+◌, ◌++◌, ◌∷◌, [], ◌==◌, ℕ, suc, List, IfOk, OnOk, Some, if◌then◌else◌, length};
 ghost use Rattle.happens_before.specs.Clocks.{Clock, own};
 ghost use Rattle.happens_before.specs.Histories.{Access, Edge, Given, Moment};
 ghost use Rattle.happens_before.specs.Races.{deed_at, time};
 ghost use Rattle.race_clocks.specs.Rows.{count, kept, knows};
 ghost use Rattle.race_detector.specs.Detects.{Detects, HasLearnt, IsAccess, IsSource, Reaches};
+ghost use Rattle.race_detector.specs.Acts.{AllWithin, AreActs, IsAct, IsWithin};
 ghost use Rattle.race_detector.specs.Sources.{AreSources, AreWithin};
 
+use crate::act::Act;
 use crate::known::Known;
 use crate::pair::Pair;
 use crate::telling::tell;
@@ -110,7 +112,7 @@ impl Detector {
     pub fn access(&mut self, byte: usize, access: Entry) -> Result<(), AllocError>
         requires byte_in { byte < 1048576 }
         requires process_in { access.process < 64 }
-        ensures reached { OnOk result ((h : List Moment) (n j : ℕ) (a : Access) → IsAccess h n j a byte access self.old →
+        ensures reached { OnOk result ((h : List Moment) (n j : ℕ) (a : Access) → IsAccess h n j a byte access self.old.clocks →
             Reaches h n j self.old → Reaches h n (suc j) self.new) }
         ensures clocks { self.new.clocks ≡ self.old.clocks }
     {
@@ -127,6 +129,41 @@ impl Detector {
         ensures clocks { self.new.clocks ≡ self.old.clocks }
     {
         self.entries.give(first, count);
+    }
+
+    /// A deed: an access, or bytes that get a new owner.
+    ///
+    /// # Errors
+    ///
+    /// Out of memory: some may be told.
+    pub fn act(&mut self, act: Act) -> Result<(), AllocError>
+        requires within { IsWithin act }
+        ensures reached { OnOk result ((h : List Moment) (n j : ℕ) → IsAct h n j act self.old.clocks →
+            Reaches h n j self.old → Reaches h n (suc j) self.new) }
+        ensures clocks { self.new.clocks ≡ self.old.clocks }
+    {
+        match act {
+            Act::Touch(byte, entry) => self.access(byte, entry)?,
+            Act::Gift(first, count) => self.give(first, count),
+        }
+        Ok(())
+    }
+
+    /// The deeds of an event, one after another.
+    ///
+    /// # Errors
+    ///
+    /// Out of memory: some may be done.
+    pub fn act_all(&mut self, acts: &[Act]) -> Result<(), AllocError>
+        requires within { AllWithin acts.now }
+        ensures reached { OnOk result ((h : List Moment) (n : ℕ) → AreActs h n acts.now self.old.clocks →
+            Reaches h n 0 self.old → Reaches h n (length acts.now) self.new) }
+        ensures clocks { self.new.clocks ≡ self.old.clocks }
+    {
+        for act in acts {
+            self.act(*act)?;
+        }
+        Ok(())
     }
 
     /// What is told so far, in the order in which it was told.

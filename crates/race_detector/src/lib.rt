@@ -8,6 +8,7 @@
 //! | [`Detector::learn`] | `learnt`: one more edge has come, if the name is that of its source |
 //! | [`Detector::learn_all`] | `learnt`: more edges have come, if the names are those of their sources |
 //! | [`Detector::access`], [`Detector::give`] | `reached`: one more deed is done: the entries and what is told are those of the history; or memory ran out |
+//! | [`Detector::act`], [`Detector::act_all`] | the same for a deed that is given as a value, and for those of an event |
 //! | [`Detector::told`] | what is told so far |
 //! | [`tell`] | `told`: the pairs that are told as an access is made come after those that were told, and `only`: each entry of the byte is the last access of its kind and process; or memory ran out |
 //!
@@ -16,6 +17,7 @@
 //! and told as an access is made.
 #![tactic(auto)]
 
+mod act;
 mod detector;
 pub mod finding;
 mod known;
@@ -24,6 +26,7 @@ pub mod moments;
 mod pair;
 mod telling;
 
+pub use act::Act;
 pub use detector::Detector;
 pub use known::Known;
 pub use pair::Pair;

@@ -7,9 +7,11 @@ ghost use Rattle.happens_before.specs.Histories.{Moment};
 ghost use Rattle.happens_before.specs.Races.{Made};
 ghost use Rattle.race_clocks.specs.Edges.{edges_past, edges_to};
 ghost use Rattle.race_clocks.specs.Rows.{knows};
+ghost use Rattle.race_detector.specs.Acts.{AllStand, AreActs};
 ghost use Rattle.race_detector.specs.Detects.{Detects, HasLearnt, Reaches};
 ghost use Rattle.race_detector.specs.Finds.{FindsAll};
 ghost use Rattle.race_detector.specs.Told.{Knows};
+ghost use Rattle.race_detector.specs.declared.act.Act.{Act};
 ghost use Rattle.race_detector.specs.declared.detector.Detector.{Detector};
 
 /// As a moment comes, none of its edges is learnt, and none of its deeds is done.
@@ -26,6 +28,14 @@ pub fn then_each_process_knows()
         HasLearnt (with_parts (suc (length h)) (clocks_after h (length h)).knows (clocks_after h (length h)).kept)
         (clocks_after h (length h)).knows (edges_to m) x →
         y.time.event ≡ suc (length h) → Knows (h ++ m ∷ []) y (knows x.clocks y.access.process) }
+{}
+
+/// Then what stands for the deeds of the moment are the acts of the event.
+pub fn then_its_acts_are_known()
+    ensures { (h : List Moment) (m : Moment) (x : Detector) →
+        HasLearnt (with_parts (suc (length h)) (clocks_after h (length h)).knows (clocks_after h (length h)).kept)
+            (clocks_after h (length h)).knows (edges_to m) x →
+        (acts : List Act) → AllStand (suc (length h)) acts m.deeds → AreActs (h ++ m ∷ []) (suc (length h)) acts x.clocks }
 {}
 
 /// Then none of the edges to the others is learnt. Once they are, with what each process knows now as the clock of its part in this event,
