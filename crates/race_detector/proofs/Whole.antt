@@ -1,5 +1,5 @@
 -- A moment is begun, and ended.
-use Rattle.std.proofs.Common.{◌≡◌, ◌∙◌, ◌++◌, ℕ, suc, List, [], ◌∷◌, length, ap, rules}
+use Rattle.std.proofs.Common.{◌≡◌, ◌∙◌, ◌++◌, ℕ, suc, List, [], ◌∷◌, length, ap}
 use Rattle.happens_before.specs.Clocks.{Clock, clocks_after, knows_in, with_parts}
 use Rattle.happens_before.specs.Histories.{Edge, Moment}
 use Rattle.race_clocks.specs.Edges.{edges_past, edges_to}
@@ -56,4 +56,12 @@ pub kept_within : (old new : Detector) → new.clocks.processes ≡ old.clocks.p
 kept_within old new processes entries told h m j is = record {
   learnt = same_learnt _ _ (edges_to m) old new processes is.learnt;
   reached = same_reached (h ++ m ∷ []) (suc (length h)) j old new entries told is.reached;
+}
+
+pub kept_detects : (old new : Detector) → new.clocks.processes ≡ old.clocks.processes → new.entries ≡ old.entries → new.told ≡ old.told
+    → (h : List Moment) → Detects h old → Detects h new
+kept_detects old new processes entries told h is = record {
+  clocks = λ v u. ap (λ (rows : List (List ℕ)). clock_at rows v u) processes ∙ is.clocks v u;
+  entries = rw entries is.entries;
+  told = rw told is.told;
 }

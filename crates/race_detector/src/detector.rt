@@ -177,7 +177,7 @@ impl Detector {
         requires acts_in { AllWithin acts.now }
         ensures begun { OnOk result ((h : List Moment) (m : Moment) →
             AreSources (with_parts (suc (length h)) (clocks_after h (length h)).knows (clocks_after h (length h)).kept)
-                (edges_to m) edges.now self.old →
+            (edges_to m) edges.now self.old →
             AllStand (suc (length h)) acts.now m.deeds → Detects h self.old → IsWithinMoment h m (length acts.now) self.new) }
         ensures kept { self.new.clocks.parts ≡ self.old.clocks.parts }
     {
@@ -191,7 +191,7 @@ impl Detector {
         requires edges_in { AreWithin edges.now self.old }
         ensures ended { (h : List Moment) (m : Moment) →
             AreSources (with_parts (suc (length h)) (knows_in (suc (length h)) m (clocks_after h (length h)))
-                (clocks_after h (length h)).kept) (edges_past m) edges.now self.old →
+            (clocks_after h (length h)).kept) (edges_past m) edges.now self.old →
             IsWithinMoment h m (length m.deeds) self.old → Detects (h ++ m ∷ []) self.new }
         ensures kept { self.new.clocks.parts ≡ self.old.clocks.parts }
     {
