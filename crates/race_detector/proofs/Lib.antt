@@ -8,3 +8,4 @@ pub mod Pairs
 pub mod Passing
 pub mod Reaching
 pub mod Standing
+pub mod Whole

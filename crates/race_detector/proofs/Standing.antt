@@ -22,13 +22,15 @@ module _ (h : List Moment) (m : Moment) (x : Detector)
 
   stands_known : (j : ℕ) (o : Act) → Stands (suc (length h)) j o (slice_get m.deeds j) → IsAct (h ++ m ∷ []) (suc (length h)) j o x.clocks
   stands_known j (Touch byte e) (a, (deed, (same, entry))) =
-      let P : ℕ → Type 0 = λ v. Knows (h ++ m ∷ []) (made_at (suc (length h)) j a) (knows x.clocks v) in
-      (a, record {
-        deed = deed_of j (Accessed a) deed;
-        same = same;
-        entry = entry;
-        known = subst P (sym (ap (λ (f : Entry). f.process) entry)) (parts_known h m x (made_at (suc (length h)) j a) learns refl);
-      })
+      let P : ℕ → Type 0 = λ v. Knows (h ++ m ∷ []) (made_at (suc (length h)) j a) (knows x.clocks v) in (
+        a,
+        record {
+          deed = deed_of j (Accessed a) deed;
+          same = same;
+          entry = entry;
+          known = subst P (sym (ap (λ (f : Entry). f.process) entry)) (parts_known h m x (made_at (suc (length h)) j a) learns refl);
+        },
+      )
   stands_known j (Gift first count) is = deed_of j (Given first count) is
 
   pub all_known : (acts : List Act) → AllStand (suc (length h)) acts m.deeds → AreActs (h ++ m ∷ []) (suc (length h)) acts x.clocks

@@ -1,9 +1,10 @@
 -- What holds of a detector while it goes through a history.
-use Rattle.std.specs.Prelude.{◌≡◌, ℕ, suc, List, length, Some}
-use Rattle.happens_before.specs.Clocks.{Clock, clocks_after, learnt}
+use Rattle.std.specs.Prelude.{◌≡◌, ◌++◌, ◌∷◌, [], ℕ, suc, List, length, Some}
+use Rattle.happens_before.specs.Clocks.{Clock, clocks_after, learnt, with_parts}
 use Rattle.happens_before.specs.Histories.{Access, Accessed, Edge, Moment}
 use Rattle.happens_before.specs.Races.{Made, deed_at, time}
 use Rattle.happens_before.specs.Told.{entries_after, entries_at}
+use Rattle.race_clocks.specs.Edges.{edges_to}
 use Rattle.race_clocks.specs.Rows.{Held, kept, knows}
 use Rattle.race_detector.specs.Finds.{Finds}
 use Rattle.race_detector.specs.Told.{Knows}
@@ -40,3 +41,9 @@ pub record Detects (h : List Moment) (x : Detector) : Type 0 where
   pub clocks : (v u : ℕ) → knows x.clocks v u ≡ (clocks_after h (length h)).knows v u
   pub entries : Holds x.entries (entries_after h (length h))
   pub told : Finds h (time (suc (length h)) 0) x.told.items
+
+-- The edges of moment m to the process that steps have come, and j of its deeds are done.
+pub record IsWithinMoment (h : List Moment) (m : Moment) (j : ℕ) (x : Detector) : Type 0 where
+  pub learnt : HasLearnt (with_parts (suc (length h)) (clocks_after h (length h)).knows (clocks_after h (length h)).kept)
+      (clocks_after h (length h)).knows (edges_to m) x
+  pub reached : Reaches (h ++ m ∷ []) (suc (length h)) j x

@@ -1,12 +1,13 @@
 //! A detector that is told what a run does, call by call.
 
 ghost use Rattle.std.specs.Prelude.{◌≡◌, ◌<◌, ◌≤◌, ◌+◌, ◌++◌, ◌∷◌, [], ◌==◌, ℕ, suc, List, IfOk, OnOk, Some, if◌then◌else◌, length};
-ghost use Rattle.happens_before.specs.Clocks.{Clock, own};
+ghost use Rattle.happens_before.specs.Clocks.{Clock, clocks_after, knows_in, own, with_parts};
 ghost use Rattle.happens_before.specs.Histories.{Access, Edge, Given, Moment};
 ghost use Rattle.happens_before.specs.Races.{deed_at, time};
+ghost use Rattle.race_clocks.specs.Edges.{edges_past, edges_to};
 ghost use Rattle.race_clocks.specs.Rows.{count, kept, knows};
-ghost use Rattle.race_detector.specs.Detects.{Detects, HasLearnt, IsAccess, IsSource, Reaches};
-ghost use Rattle.race_detector.specs.Acts.{AllWithin, AreActs, IsAct, IsWithin};
+ghost use Rattle.race_detector.specs.Detects.{Detects, HasLearnt, IsAccess, IsSource, IsWithinMoment, Reaches};
+ghost use Rattle.race_detector.specs.Acts.{AllStand, AllWithin, AreActs, IsAct, IsWithin};
 ghost use Rattle.race_detector.specs.Sources.{AreSources, AreWithin};
 
 use crate::act::Act;
@@ -164,6 +165,37 @@ impl Detector {
             self.act(*act)?;
         }
         Ok(())
+    }
+
+    /// Begins a moment: the edges to the process that steps come, and the deeds are done.
+    ///
+    /// # Errors
+    ///
+    /// Out of memory: some may be done.
+    pub fn begin(&mut self, edges: &[Known], acts: &[Act]) -> Result<(), AllocError>
+        requires edges_in { AreWithin edges.now self.old }
+        requires acts_in { AllWithin acts.now }
+        ensures begun { OnOk result ((h : List Moment) (m : Moment) →
+            AreSources (with_parts (suc (length h)) (clocks_after h (length h)).knows (clocks_after h (length h)).kept)
+            (edges_to m) edges.now self.old →
+            AllStand (suc (length h)) acts.now m.deeds → Detects h self.old → IsWithinMoment h m (length acts.now) self.new) }
+        ensures kept { self.new.clocks.parts ≡ self.old.clocks.parts }
+    {
+        self.learn_all(edges);
+        self.act_all(acts)?;
+        Ok(())
+    }
+
+    /// Ends a moment: the edges to the other processes come.
+    pub fn end(&mut self, edges: &[Known])
+        requires edges_in { AreWithin edges.now self.old }
+        ensures ended { (h : List Moment) (m : Moment) →
+            AreSources (with_parts (suc (length h)) (knows_in (suc (length h)) m (clocks_after h (length h)))
+            (clocks_after h (length h)).kept) (edges_past m) edges.now self.old →
+            IsWithinMoment h m (length m.deeds) self.old → Detects (h ++ m ∷ []) self.new }
+        ensures kept { self.new.clocks.parts ≡ self.old.clocks.parts }
+    {
+        self.learn_all(edges);
     }
 
     /// What is told so far, in the order in which it was told.

@@ -9,6 +9,8 @@
 //! | [`Detector::learn_all`] | `learnt`: more edges have come, if the names are those of their sources |
 //! | [`Detector::access`], [`Detector::give`] | `reached`: one more deed is done: the entries and what is told are those of the history; or memory ran out |
 //! | [`Detector::act`], [`Detector::act_all`] | the same for a deed that is given as a value, and for those of an event |
+//! | [`Detector::begin`] | `begun`: the edges of a moment to the process that steps have come, and its deeds are done; or memory ran out |
+//! | [`Detector::end`] | `ended`: the edges to the others have come, so it is a detector of the history with that moment |
 //! | [`Detector::told`] | what is told so far |
 //! | [`tell`] | `told`: the pairs that are told as an access is made come after those that were told, and `only`: each entry of the byte is the last access of its kind and process; or memory ran out |
 //!

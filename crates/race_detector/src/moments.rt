@@ -8,7 +8,7 @@ ghost use Rattle.happens_before.specs.Races.{Made};
 ghost use Rattle.race_clocks.specs.Edges.{edges_past, edges_to};
 ghost use Rattle.race_clocks.specs.Rows.{knows};
 ghost use Rattle.race_detector.specs.Acts.{AllStand, AreActs};
-ghost use Rattle.race_detector.specs.Detects.{Detects, HasLearnt, Reaches};
+ghost use Rattle.race_detector.specs.Detects.{Detects, HasLearnt, IsWithinMoment, Reaches};
 ghost use Rattle.race_detector.specs.Finds.{FindsAll};
 ghost use Rattle.race_detector.specs.Told.{Knows};
 ghost use Rattle.race_detector.specs.declared.act.Act.{Act};
@@ -34,7 +34,7 @@ pub fn then_each_process_knows()
 pub fn then_its_acts_are_known()
     ensures { (h : List Moment) (m : Moment) (x : Detector) →
         HasLearnt (with_parts (suc (length h)) (clocks_after h (length h)).knows (clocks_after h (length h)).kept)
-            (clocks_after h (length h)).knows (edges_to m) x →
+        (clocks_after h (length h)).knows (edges_to m) x →
         (acts : List Act) → AllStand (suc (length h)) acts m.deeds → AreActs (h ++ m ∷ []) (suc (length h)) acts x.clocks }
 {}
 
@@ -49,6 +49,14 @@ pub fn a_moment_goes()
         HasLearnt (with_parts (suc (length h)) (knows_in (suc (length h)) m (clocks_after h (length h))) (clocks_after h (length h)).kept)
         (knows_in (suc (length h)) m (clocks_after h (length h))) (edges_past m) x →
         Reaches (h ++ m ∷ []) (suc (length h)) (length m.deeds) x → Detects (h ++ m ∷ []) x }
+{}
+
+/// As a clock is kept, before a moment or within it, all else stays.
+pub fn keeping_changes_nothing()
+    ensures before { (old new : Detector) → new.clocks.processes ≡ old.clocks.processes → new.entries ≡ old.entries →
+        new.told ≡ old.told → (h : List Moment) → Detects h old → Detects h new }
+    ensures within { (old new : Detector) → new.clocks.processes ≡ old.clocks.processes → new.entries ≡ old.entries →
+        new.told ≡ old.told → (h : List Moment) (m : Moment) (j : ℕ) → IsWithinMoment h m j old → IsWithinMoment h m j new }
 {}
 
 /// After the last moment all that the history tells is told, and nothing else.
