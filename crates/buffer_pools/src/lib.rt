@@ -13,7 +13,7 @@
 //! | `meets` | | `meets`: whether a range meets the memory of a pool |
 //! | `make` | `room`: fewer than twenty are made; `size`, `number`: at most 8192 bytes and 2048 buffers; `in_ram`; `base_aligned`, `size_aligned`: multiples of 4 | `made`: the machine's `new_pool` comes after the others; `next`: its number |
 //! | `sem_of` | | `semaphore`: the pool's, `None` if and only if it isn't made |
-//! | `size_of`, `free_count`, `held` | `made` | `size`, `count`, `held`: the size of a buffer, how many are free, how many are held |
+//! | `size_of`, `free_count`, `held`, `memory_of` | `made` | `size`, `count`, `held`, `base`, `bytes`: the size of a buffer, how many are free, how many are held, and where the memory is |
 //! | `free_at` | `made` | `free`: the k-th free buffer, `None` if and only if there are fewer |
 //! | `get_part` | `free`: a buffer is free | `first`: the answer was the first free one; `pools`: it isn't free, and nothing else changes; `after_word`, `word`: the word before it can be written |
 //! | `free` | | `holder`: the pool that has the held buffer, `None` if and only if no held buffer has the address; `pools`: it is the first free one, or nothing changes; `made`, `room`: the pool is made, and has fewer than 2048 free ones |

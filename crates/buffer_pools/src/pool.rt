@@ -111,6 +111,14 @@ impl Pool {
         self.size
     }
 
+    /// Its memory: where it begins, and how many bytes it has.
+    pub(crate) fn memory(&self) -> (u32, u32)
+        ensures base { result.0 ≡ self.now.base }
+        ensures bytes { result.1 ≡ pool_bytes self.now.size self.now.number }
+    {
+        (self.base, self.number * (self.size + 4))
+    }
+
     /// How many buffers are free.
     pub(crate) fn free_count(&self) -> u32
         ensures count { result ≡ length self.now.free }

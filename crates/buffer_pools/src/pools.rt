@@ -130,6 +130,15 @@ impl Pools {
         self.pools[i.index()].size()
     }
 
+    /// The memory of pool `i`: where it begins, and how many bytes it has.
+    pub fn memory_of(&self, i: PoolId) -> (u32, u32)
+        requires made { i < length self.now }
+        ensures base { result.0 ≡ (pool_at self.now i).base }
+        ensures bytes { result.1 ≡ pool_bytes (pool_at self.now i).size (pool_at self.now i).number }
+    {
+        self.pools[i.index()].memory()
+    }
+
     /// How many buffers of pool `i` are free.
     pub fn free_count(&self, i: PoolId) -> u32
         requires made { i < length self.now }

@@ -1,6 +1,6 @@
 //! The raw disk: its blocks, and the requests that wait for it (book, chapter 18, `rdsread.c`, `rdswrite.c`, `rdsprocess.c`).
 
-ghost use Rattle.std.specs.Prelude.{◌≡◌, ◌↔◌, IsTrue, ◌<◌, ◌≤◌, [], ◌∷◌, IfNone, IfSome, length, option_map, pos, slice_set, true};
+ghost use Rattle.std.specs.Prelude.{◌≡◌, ◌↔◌, IsTrue, ◌<◌, ◌≤◌, [], ◌∷◌, IfNone, IfSome, length, map, option_map, pos, slice_set, true};
 ghost use Rattle.std.specs.List.{concat};
 ghost use Rattle.lfs_layout.specs.Images.{blocks_of};
 ghost use Rattle.disk_driver.specs.Served.{bytes_read, request_of, served_of};
@@ -103,6 +103,13 @@ impl Disk {
         ensures most { result ≤ 64 }
     {
         self.requests.len()
+    }
+
+    /// The requests that wait, in the order in which they were made.
+    pub fn requests(&self) -> &[Request]
+        ensures requests { map request_of result.now ≡ self.now.requests }
+    {
+        self.requests.as_slice()
     }
 
     /// A request, whose bytes are in RAM, goes after the others.

@@ -9,7 +9,7 @@
 //! | `submit` | `room`: fewer than 64 requests wait; `within`: there is the block; `range`: the bytes are in RAM | `submits`: `requested` |
 //! | `complete` | | `served`, `disk`: `raw_completed`, the request that was served, its reply, the bytes that were read, and the disk after it; `None`, and nothing changes, if and only if no request waits; `range`: the bytes of the request are in RAM |
 //! | `forget` | | `forgets`: `requests_given_up` |
-//! | `pending` | | `pending`: how many requests wait; `most`: at most 64 |
+//! | `pending`, `requests` | | `pending`, `requests`: how many requests wait, and which; `most`: at most 64 |
 //! | `blocks` | | `blocks`: how many blocks there are; `least`, `most`: 8 to 65,536 |
 //! | `block` | `within`: there is the block | `block`, `size`: its 512 bytes |
 //! | `set_block` | `within`: there is the block | `set`: its bytes are these, and nothing else changes |

@@ -1,16 +1,18 @@
 //! A disk with the file engine that works on it: a call begins, and goes on at each good completion until it has its reply.
 
-ghost use Rattle.std.specs.Prelude.{◌≡◌, ◌≤◌, ◌<◌, ◌/◌, ◌+◌, ◌-◌, ◌*◌, ℕ, List, Option, Some, None, IsSome, IsTrue, ◌↔◌, IfOk, MatchOption, is_some, length};
+ghost use Rattle.std.specs.Prelude.{◌≡◌, ◌≤◌, ◌<◌, ◌/◌, ◌+◌, ◌-◌, ◌*◌, ℕ, List, Option, Some, None, IsSome, IsTrue, ◌↔◌, IfOk, MatchOption, is_some, length, map};
 ghost use Rattle.std.specs.List.{list_any};
 ghost use Rattle.file_laws.specs.StoredFiles.{stored_files};
-ghost use Rattle.file_server.specs.DiskStates.{HasFewTurns, HeldCall, Waits, IsDone, IsFirstHeld};
+ghost use Rattle.file_server.specs.DiskStates.{HasFewTurns, HeldCall, Waits, IsDone, IsFirstHeld, bytes_held};
 ghost use Rattle.file_server.specs.OpenFiles.{place_of};
 ghost use Rattle.given_disks.specs.HeldFiles.{HoldsFiles};
 ghost use Rattle.lfs_check.specs.Disks.{block_put};
+ghost use Rattle.lfs_layout.specs.Images.{IsCleanImage};
 ghost use Rattle.local_files.specs.Bounds.{left};
 ghost use Rattle.local_files.specs.Hands.{IsCall};
 ghost use Rattle.local_files.specs.Resting.{ChangesOneBlock, IsOnDisk, OnlyReads};
 ghost use Rattle.local_files.specs.Standing.{Stands, GoesTo, wanted, served, call_of, call_bytes, given_bytes};
+ghost use Rattle.local_files.specs.Steps.{shown};
 ghost use Rattle.xinu_base.specs.Constants.{SYSERR};
 ghost use Rattle.xinu_model.specs.Files.Calls.{file_effect};
 ghost use Rattle.xinu_model.specs.Files.Systems.{OpenFile, closed_system, open_at};
@@ -19,7 +21,7 @@ ghost use Rattle.xinu_model.specs.Files.Work.{FileWork, most_turns};
 use crate::settled::{Written, note_write, settle};
 use lfs_check::block_at;
 use lfs_layout::CleanImage;
-use local_files::{BlockWork, FileCall, Files};
+use local_files::{BlockWork, FileCall, Files, OpenFile};
 use std::alloc::{AllocError, Global};
 use std::marker::Model;
 use xinu_base::NoMemory;
@@ -130,6 +132,33 @@ impl FileDisk {
         ensures bytes { result.now ≡ self.now.given }
     {
         self.files.gathered()
+    }
+
+    // The bytes of the write that waits; none if no write does.
+    pub(crate) fn held_bytes(&self) -> &[u8]
+        ensures bytes { result.now ≡ bytes_held self.now.hand }
+    {
+        if self.files.wants().is_some() {
+            self.files.call_bytes()
+        } else {
+            &[]
+        }
+    }
+
+    // The disk as it was when the call in hand began.
+    pub(crate) fn settled(&self) -> &[u8]
+        ensures files { stored_files result.now ≡ self.now.system.files }
+        ensures clean { IsCleanImage result.now }
+        ensures blocks { length result.now ≡ 512 * self.now.system.blocks }
+    {
+        &self.settled
+    }
+
+    // What each device has open.
+    pub(crate) fn devices(&self) -> &[Option<OpenFile>; 6]
+        ensures devices { map shown result.now ≡ self.now.system.devices }
+    {
+        &self.files.devices
     }
 
     // The bytes of the disk.

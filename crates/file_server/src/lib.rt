@@ -10,7 +10,8 @@
 //! | `issue` | `room`: fewer than 64 calls are under way; `request`: its name can be one, and its bytes are in RAM | `issued`: `issued 0`, it is under way after the others, or `issued 1` with its reply, if no call was under way and it needs no block; `image`: the disk stays |
 //! | `complete` | `busy`: a call is under way | `completed`: `calls_completed` of as many calls as took effect, which are as many as the abstract machine allows, with RAM and what happened, in order; `image`: at most one block of the disk changes, and none while the first call is one that will be refused or writes no file |
 //! | `forget` | | `forgets`: `calls_given_up`; `image`: the disk stays |
-//! | `are_calls`, `pending` | | whether calls are under way, and how many, which are at most 64 |
+//! | `are_calls`, `pending`, `calls` | | whether calls are under way, how many, which are at most 64, and which |
+//! | `first_bytes`, `settled`, `devices` | | the bytes that the first call writes, the disk as it was when that began, and what each device has open |
 //! | `open_file`, `is_busy` | | the position and the size of an open file; whether a file is open or a call is under way |
 //! | `bytes` | | the bytes of the disk |
 //! | `equals` | | `equal`: `true` if and only if what a clause sees of another server is equal and no call is under way |

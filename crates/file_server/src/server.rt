@@ -2,11 +2,13 @@
 
 ghost use Rattle.file_laws.specs.StoredFiles.{stored_files};
 ghost use Rattle.file_server.specs.OpenFiles.{place_of};
-ghost use Rattle.file_server.specs.Requests.{IsRequest, note_of, request_of};
+ghost use Rattle.file_server.specs.Requests.{AreRequests, IsRequest, note_of, request_of};
 ghost use Rattle.file_server.specs.ServerStates.{IsCompleted, IsIssued};
 ghost use Rattle.given_disks.specs.HeldFiles.{HoldsFiles};
+ghost use Rattle.lfs_layout.specs.Images.{IsCleanImage};
 ghost use Rattle.local_files.specs.Resting.{ServesDisk};
-ghost use Rattle.std.specs.Prelude.{◌≡◌, ◌<◌, ◌≤◌, ◌/◌, ◌↔◌, [], ◌∷◌, IsTrue, IfOk, MatchOption, false, true, length, map};
+ghost use Rattle.local_files.specs.Steps.{shown};
+ghost use Rattle.std.specs.Prelude.{◌≡◌, ◌<◌, ◌≤◌, ◌*◌, ◌/◌, ◌↔◌, [], ◌∷◌, IsTrue, IfOk, MatchOption, false, true, length, map};
 ghost use Rattle.xinu_base.specs.declared.lines.FileMoment.TheVariants.{Finished};
 ghost use Rattle.xinu_model.specs.Files.Rest.{are_calls, is_busy};
 ghost use Rattle.xinu_model.specs.Files.Systems.{closed_system, open_at};
@@ -16,6 +18,7 @@ use crate::file_disk::FileDisk;
 use crate::requests::{FileNote, FileNotes, FileRequest, Requests, keep};
 use crate::starting::{begin_next, bytes_of, hand_over, take_effect};
 use lfs_layout::CleanImage;
+use local_files::OpenFile;
 use rv_hart::Ram;
 use std::alloc::{AllocError, Global};
 use std::marker::Model;
@@ -114,6 +117,37 @@ impl FileServer {
         ensures most { result ≤ 64 }
     {
         self.requests.len()
+    }
+
+    /// The calls under way, in the order in which they were made.
+    pub fn calls(&self) -> &[FileRequest]
+        ensures calls { map request_of result.now ≡ self.now.work.calls }
+        ensures requests { AreRequests result.now }
+    {
+        self.requests.as_slice()
+    }
+
+    /// The bytes that the first call writes, as they were in RAM when it became the first; none if it is no write, or there is no call.
+    pub fn first_bytes(&self) -> &[u8]
+        ensures bytes { result.now ≡ self.now.work.bytes }
+    {
+        self.disk.held_bytes()
+    }
+
+    /// The disk as it was when the first call began: it holds the files of the file system.
+    pub fn settled(&self) -> &[u8]
+        ensures files { stored_files result.now ≡ self.now.work.system.files }
+        ensures clean { IsCleanImage result.now }
+        ensures blocks { length result.now ≡ 512 * self.now.work.system.blocks }
+    {
+        self.disk.settled()
+    }
+
+    /// What each file device has open, with its entry of the settled disk.
+    pub fn devices(&self) -> &[Option<OpenFile>; 6]
+        ensures devices { map shown result.now ≡ self.now.work.system.devices }
+    {
+        self.disk.devices()
     }
 
     /// A call is made, with bytes in RAM. It has its reply at once, and a read's bytes are in RAM, or it is under way after the others.

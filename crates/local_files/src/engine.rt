@@ -125,6 +125,16 @@ impl Files {
         }
     }
 
+    /// The bytes that the call in hand writes; none if it is no write.
+    pub fn call_bytes(&self) -> &[u8]
+        ensures bytes { result.now ≡ call_bytes self.now }
+    {
+        match self.call {
+            FileCall::Write(_) => self.buffer.first(self.counters.total),
+            _ => &[],
+        }
+    }
+
     /// The bytes that a read that is done has given.
     pub fn gathered(&self) -> &[u8]
         ensures bytes { result.now ≡ gathered self.now }

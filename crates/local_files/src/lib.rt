@@ -10,6 +10,7 @@
 //! | `wants`, `outgoing` | | the block that is to be read, or to be written with these bytes |
 //! | `completed` | `wants`: a block is | `goes`: the call goes on, and the files stand as before it, or it is done as the abstract machine's call is, with its reply, its bytes and its files; `less`: fewer completions are left |
 //! | `answer`, `gathered` | | the reply of a call that is done, after which none is in hand; the bytes that it read |
+//! | `call_bytes` | | the bytes that the call in hand writes |
 //! | `position`, `open_count` | | what is open |
 //! | `has_same_open` | | `equal`: `true` if and only if the devices of another engine show the same, if both stand for disks: the names of files, their positions, and whether each may be read and written |
 //! | `clone` | | an equal engine; it takes memory |
