@@ -63,6 +63,13 @@ impl Clocks {
         self.kept[name][u]
     }
 
+    /// How many clocks are kept: their names are the numbers below.
+    pub fn count(&self) -> usize
+        ensures count { result ≡ count self.now }
+    {
+        self.kept.len()
+    }
+
     /// Joins what `v` knows with the clock of this name.
     pub fn learn(&mut self, v: usize, name: usize)
         requires v_in { v < 64 }

@@ -7,6 +7,7 @@
 //! | [`Clocks::learn`] | `learnt`: what a process knows is joined with a kept clock (`join` of `happens_before`) |
 //! | [`Clocks::keep`] | `kept`: the clock of a part (`own` of `happens_before`) is kept under a new name; or memory ran out, and nothing changed |
 //! | [`Clocks::keep_as`] | `kept`: the same under a name that is given up for it; it takes no memory |
+//! | [`Clocks::count`] | how many are kept: their names are the numbers below |
 //! | [`Clocks::knows`], [`Clocks::kept`] | up to which event of another process a process, or a kept clock, knows |
 //!
 //! A clause sees [`Clocks`] as rows, which `knows` and `kept` of `specs/Rows.antt` read as clocks of processes and names. The module

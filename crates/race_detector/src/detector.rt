@@ -1,6 +1,6 @@
 //! A detector that is told what a run does, call by call.
 
-ghost use Rattle.std.specs.Prelude.{◌≡◌, ◌<◌, ◌≤◌, ◌+◌, ◌++◌, ◌∷◌, [], ◌==◌, ℕ, suc, List, IfOk, OnOk, Some, if◌then◌else◌, length};
+ghost use Rattle.std.specs.Prelude.{◌≡◌, ◌<◌, ◌≤◌, ◌+◌, ◌++◌, ◌∷◌, [], ◌==◌, ℕ, suc, List, IfOk, OnErr, OnOk, Some, if◌then◌else◌, length};
 ghost use Rattle.happens_before.specs.Clocks.{Clock, clocks_after, knows_in, own, with_parts};
 ghost use Rattle.happens_before.specs.Histories.{Access, Edge, Given, Moment};
 ghost use Rattle.happens_before.specs.Races.{deed_at, time};
@@ -45,6 +45,13 @@ impl Detector {
         })
     }
 
+    /// How many clocks of parts are kept: their names are the numbers below.
+    pub fn count(&self) -> usize
+        ensures count { result ≡ count self.now.clocks }
+    {
+        self.clocks.count()
+    }
+
     /// An edge comes to a process from the part whose clock has this name.
     pub fn learn(&mut self, process: usize, name: usize)
         requires process_in { process < 64 }
@@ -87,6 +94,7 @@ impl Detector {
         ensures knows { self.new.clocks.processes ≡ self.old.clocks.processes }
         ensures entries { self.new.entries ≡ self.old.entries }
         ensures told { self.new.told ≡ self.old.told }
+        ensures refused { OnErr result (self.new.clocks ≡ self.old.clocks) }
     {
         self.clocks.keep(n, process)
     }

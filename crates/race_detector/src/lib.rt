@@ -5,6 +5,7 @@
 //! |---|---|
 //! | [`Detector::new`] | `start`: it is a detector of the history in which nothing happens; or memory ran out |
 //! | [`Detector::keep`], [`Detector::keep_as`] | `kept`: the clock of a part has a name; or memory ran out |
+//! | [`Detector::count`] | how many have one: the names are the numbers below |
 //! | [`Detector::learn`] | `learnt`: one more edge has come, if the name is that of its source |
 //! | [`Detector::learn_all`] | `learnt`: more edges have come, if the names are those of their sources |
 //! | [`Detector::access`], [`Detector::give`] | `reached`: one more deed is done: the entries and what is told are those of the history; or memory ran out |
