@@ -101,7 +101,6 @@ impl Watcher {
             .ledger
             .keep_dead(&mut self.detector, self.number, u, ahead, k)?;
         let mut known = Vec::new(self.alloc);
-        self.ledger.learn(&mut known, u, ahead, k)?;
         for w in 0..64 {
             if let Some(name) = dead[w] {
                 known.push(Known {
@@ -110,6 +109,7 @@ impl Watcher {
                 })?;
             }
         }
+        self.ledger.learn(&mut known, u, ahead, k)?;
         let known = within(self.alloc, known.as_slice(), &self.detector)?;
         self.detector.begin(known.as_slice(), self.acts.as_slice())?;
         let own = self.ledger.names.keep(&mut self.detector, self.number, u)?;
@@ -123,7 +123,7 @@ impl Watcher {
         Ok(())
     }
 
-    // The edges to those who become ready, or begin.
+    // The edges to those who become ready, and to those who begin.
     fn lead(
         &mut self,
         own: usize,
@@ -134,7 +134,16 @@ impl Watcher {
         let mut known = Vec::new(self.alloc);
         for v in 0..64 {
             let p = Pid::at(v);
-            if p != u && (wakes(ahead, k, p) || begins(ahead, k, p)) {
+            if p != u && wakes(ahead, k, p) {
+                known.push(Known {
+                    process: v,
+                    name: own,
+                })?;
+            }
+        }
+        for v in 0..64 {
+            let p = Pid::at(v);
+            if p != u && begins(ahead, k, p) {
                 known.push(Known {
                     process: v,
                     name: own,
