@@ -1,7 +1,7 @@
 -- The values of the code as those of the definitions: the rows of a table, what was taken from arguments, and what is wrong with them.
 use Rattle.std.specs.Prelude.{Result, Ok, Err, map}
-use Rattle.command_line.specs.Reading.{ReadingFault as Fault, State as ReadingState, Taken as TakenWords, OptionRow, Text, Unknown, Twice, NoValue, choosing, wanting, listing, refused, value_option}
-use Rattle.command_words.specs.Tools.{Need as NeedOf, Needed, Optional, With, Without, ValueRow as Row}
+use Rattle.command_line.specs.Reading.{ReadingFault as Fault, State as ReadingState, Taken as TakenWords, OptionRow, Text, Unknown, Twice, NoValue, TakesNone, choosing, wanting, listing, refused, value_option}
+use Rattle.command_words.specs.Tools.{Need as NeedOf, Needed, Optional, With, Without, WithoutBoth, ValueRow as Row}
 use Rattle.command_words.specs.Words as words
 use Rattle.command_words.specs.declared.tools.Need.{Need}
 use Rattle.command_words.specs.declared.tools.Need.TheVariants as need
@@ -20,14 +20,15 @@ need_of need.Needed = Needed
 need_of need.Optional = Optional
 need_of (need.With other) = With other.now
 need_of (need.Without other) = Without other.now
+need_of (need.WithoutBoth one two) = WithoutBoth one.now two.now
 
 -- a row of a table
 abbrev pub value_row : ValueRow → Row
 value_row r = record { name = r.name.now; kind = r.kind; need = need_of r.need }
 
--- an option that was given, with its value
+-- an option that was given, with its value: none, if it takes none
 abbrev pub given_pair : Given → OptionRow × Text
-given_pair g = (value_option g.name.now, g.value.now)
+given_pair g = (record { name = g.name.now; takes_value = g.takes_value }, g.value.now)
 
 -- what was taken from arguments
 abbrev pub taken_words : Taken → TakenWords
@@ -38,6 +39,7 @@ abbrev pub fault_of : ReadingFault → Fault
 fault_of (fault.Unknown arg) = Unknown arg.now
 fault_of (fault.Twice name) = Twice name.now
 fault_of (fault.NoValue name) = NoValue name.now
+fault_of (fault.TakesNone name) = TakesNone name.now
 
 -- the state of the reading
 abbrev pub state_of : State → ReadingState

@@ -1,12 +1,12 @@
--- What the value of an option has to be, by the kind that its row names.
-use Rattle.std.specs.Prelude.{◌==◌, ◌-◌, ◌&&◌, ℕ, Bool, false, nat_lt, nat_le, if◌then◌else◌, [], ◌∷◌, length, Option, Some, None, option_and_then}
+-- What the value of an option has to be, by the kind that its row names: one that takes none has nothing to be.
+use Rattle.std.specs.Prelude.{◌==◌, ◌-◌, ◌&&◌, ℕ, Bool, true, false, nat_lt, nat_le, if◌then◌else◌, [], ◌∷◌, length, Option, Some, None, option_and_then}
 use Rattle.std.specs.List.{list_all, before_first, after_first, position_or_len}
 use Rattle.std.specs.Char.{is_ascii_digit}
 use Rattle.std.specs.Option.{option_map_or}
 use Rattle.std.specs.Str.Parse.{digits_value}
 use Rattle.command_line.specs.Reading.{Text}
 use Rattle.command_words.specs.declared.value_kinds.Kind.{Kind}
-use Rattle.command_words.specs.declared.value_kinds.Kind.TheVariants.{File, Number, Span, Title}
+use Rattle.command_words.specs.declared.value_kinds.Kind.TheVariants.{File, Number, Span, Title, Flag}
 
 -- the number that one to ten decimal digits give
 abbrev pub number_in : Text → Option ℕ
@@ -47,9 +47,11 @@ is_within least most n = nat_le least n && nat_le n most
 abbrev pub is_span : ℕ → ℕ → ℕ → ℕ → Bool
 is_span greatest most first last = nat_le 1 first && (nat_le first last && (nat_le last greatest && nat_lt (last - first) most))
 
--- whether a value is one of a kind: a name that isn't empty, a number in a range, `A..B`, or a text of at most so many bytes
+-- whether a value is one of a kind: a name that isn't empty, a number in a range, `A..B`, or a text of at most so many bytes; an option that takes
+-- no value has none that could be another
 abbrev pub is_value : Kind → Text → Bool
 is_value File value = nat_lt 0 (length value)
 is_value (Number least most) value = option_map_or (is_within least most) (number_in value) false
 is_value (Span greatest most) value = option_map_or (λ p. is_span greatest most p.0 p.1) (span_in value) false
 is_value (Title most) value = nat_lt 0 (length value) && nat_le (length value) most
+is_value Flag value = true

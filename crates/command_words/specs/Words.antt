@@ -3,7 +3,7 @@ use Rattle.std.specs.Prelude.{◌&&◌, not, nat_lt, nat_le, if◌then◌else◌
 use Rattle.std.specs.List.{list_all}
 use Rattle.command_line.specs.Reading.{ReadingFault, Taken, Text, is_given, option_value, reading}
 use Rattle.command_line.specs.RunArgs.{is_file_name, most_images}
-use Rattle.command_words.specs.Tools.{Need, Needed, Optional, With, Without, ValueRow, option_of}
+use Rattle.command_words.specs.Tools.{Need, Needed, Optional, With, Without, WithoutBoth, ValueRow, option_of}
 use Rattle.command_words.specs.ValueKinds.{is_value}
 use Rattle.command_words.specs.declared.value_kinds.Kind.{Kind}
 
@@ -34,12 +34,17 @@ abbrev pub value_fault : ValueRow → Option Text → Option WordsFault
 value_fault r None = None
 value_fault r (Some value) = if is_value r.kind value then None else Some (BadValue r.name r.kind)
 
+-- the first option isn't given with the other
+abbrev pub pair_fault : (name other : Text) → Taken → Option WordsFault
+pair_fault name other t = if is_given name t && is_given other t then Some (NotWith name other) else None
+
 -- an option is given when it is to be given
 abbrev pub need_fault : Need → Text → Taken → Option WordsFault
 need_fault Needed name t = if is_given name t then None else Some (Missing name)
 need_fault Optional name t = None
 need_fault (With other) name t = if is_given name t && not (is_given other t) then Some (GoesWith name other) else None
-need_fault (Without other) name t = if is_given name t && is_given other t then Some (NotWith name other) else None
+need_fault (Without other) name t = pair_fault name other t
+need_fault (WithoutBoth one two) name t = or_fault (pair_fault name one t) (pair_fault name two t)
 
 -- what is wrong with the values of the options, in the order of the table
 abbrev pub values_fault : Taken → List ValueRow → Option WordsFault

@@ -1,7 +1,7 @@
-//! The words of the commands that say what is wrong with them: `explain`, `timeline`, `races` and `gdb`.
+//! The words of the commands that say what is wrong with them: `explain`, `timeline`, `races`, `judge` and `gdb`.
 //!
-//! Each command has a table of its options (`specs/Tools.antt`), which says of an option its name, what its value has to be, and when it is to be
-//! given. Words are read from the left by the table, as those of `run` are (`reading` of `command_line`); then what was taken is judged by it.
+//! Each command has a table of its options (`specs/Tools.antt`), which says of an option its name, what its value has to be, if it takes one, and when
+//! it is to be given. Words are read from the left by the table, as those of `run` are (`reading` of `command_line`); then what was taken is judged by it.
 //!
 //! | Call | Promise |
 //! |---|---|

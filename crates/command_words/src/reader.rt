@@ -1,8 +1,8 @@
 //! How the words of a command are read, from the left.
 
-ghost use Rattle.std.specs.Prelude.{◌≡◌, IfOk, codes, map, option_map, string_bytes};
+ghost use Rattle.std.specs.Prelude.{◌≡◌, [], IfOk, Some, codes, map, option_map, string_bytes};
 ghost use Rattle.command_line.specs.Reading as reading;
-ghost use Rattle.command_words.specs.ToolNames.{state_of, taken_words, value_row};
+ghost use Rattle.command_words.specs.ToolNames.{given_pair, state_of, taken_words, value_row};
 ghost use Rattle.command_words.specs.Tools.{option_of};
 
 use crate::forms::{ArgForm, form_of};
@@ -77,15 +77,31 @@ impl<'a> Taken<'a> {
     fn take_name(
         self,
         arg: &'a str,
-        option: Option<&'static str>,
+        row: Option<ValueRow>,
         value: Option<&'a str>,
     ) -> Result<State<'a>, AllocError>
-        ensures named { IfOk result (λ s. state_of s ≡ reading.after_name arg.entry.now (option_map (λ s. reading.value_option s.now) option.entry) (option_map (λ s. s.now) value.entry) (taken_words self.entry)) }
+        ensures named { IfOk result (λ s. state_of s ≡ reading.after_name arg.entry.now (option_map (λ r. option_of (value_row r)) row) (option_map (λ s. s.now) value.entry) (taken_words self.entry)) }
     {
-        match (option, value) {
-            (None, _) => Ok(State::Refused(ReadingFault::Unknown(arg))),
-            (Some(name), None) => Ok(State::Wanting(name, self)),
-            (Some(name), Some(value)) => self.with_option(name, value),
+        match row {
+            Some(row) => self.take_option(row.name, row.kind.takes_value(), value),
+            None => Ok(State::Refused(ReadingFault::Unknown(arg))),
+        }
+    }
+
+    // Takes the option of this name, with the value that is attached to it.
+    fn take_option(
+        self,
+        name: &'static str,
+        takes_value: bool,
+        value: Option<&'a str>,
+    ) -> Result<State<'a>, AllocError>
+        ensures option { IfOk result (λ s. state_of s ≡ reading.after_name [] (Some (record { name = name.entry.now; takes_value = takes_value })) (option_map (λ s. s.now) value.entry) (taken_words self.entry)) }
+    {
+        match (takes_value, value) {
+            (true, None) => Ok(State::Wanting(name, self)),
+            (true, Some(value)) => self.with_value(name, value),
+            (false, None) => self.with_flag(name),
+            (false, Some(_)) => Ok(State::Refused(ReadingFault::TakesNone(name))),
         }
     }
 
@@ -94,20 +110,42 @@ impl<'a> Taken<'a> {
         ensures value { IfOk result (λ s. state_of s ≡ reading.after_value (reading.value_option name.entry.now) (taken_words self.entry) arg.entry.now (reading.arg_of arg.entry.now)) }
     {
         match form_of(arg) {
-            ArgForm::Bare => self.with_option(name, arg),
+            ArgForm::Bare => self.with_value(name, arg),
             _ => Ok(State::Refused(ReadingFault::NoValue(name))),
         }
     }
 
-    // Takes an option with its value, once.
-    fn with_option(self, name: &'static str, value: &'a str) -> Result<State<'a>, AllocError>
+    // Takes an option with its value.
+    fn with_value(self, name: &'static str, value: &'a str) -> Result<State<'a>, AllocError>
         ensures option { IfOk result (λ s. state_of s ≡ reading.with_option (reading.value_option name.entry.now) value.entry.now (taken_words self.entry)) }
     {
-        if self.is_given(name) {
-            return Ok(State::Refused(ReadingFault::Twice(name)));
+        self.with_option(Given {
+            name,
+            takes_value: true,
+            value,
+        })
+    }
+
+    // Takes an option that has no value.
+    fn with_flag(self, name: &'static str) -> Result<State<'a>, AllocError>
+        ensures option { IfOk result (λ s. state_of s ≡ reading.with_option (reading.flag_option name.entry.now) [] (taken_words self.entry)) }
+    {
+        self.with_option(Given {
+            name,
+            takes_value: false,
+            value: "",
+        })
+    }
+
+    // Takes an option, once.
+    fn with_option(self, given: Given<'a>) -> Result<State<'a>, AllocError>
+        ensures option { IfOk result (λ s. state_of s ≡ reading.with_option (given_pair given.entry).0 (given_pair given.entry).1 (taken_words self.entry)) }
+    {
+        if self.is_given(given.name) {
+            return Ok(State::Refused(ReadingFault::Twice(given.name)));
         }
         let mut options = self.options;
-        options.push(Given { name, value })?;
+        options.push(given)?;
         Ok(State::Choosing(Taken { options, ..self }))
     }
 
@@ -121,13 +159,13 @@ impl<'a> Taken<'a> {
     }
 }
 
-// The name of the row that has this name.
-fn row_named(rows: &[ValueRow], name: &str) -> Option<&'static str>
-    ensures row { option_map (λ s. reading.value_option s.now) result ≡ reading.row_named (map option_of (map value_row rows.now)) name.now }
+// The row of this name.
+fn row_named(rows: &[ValueRow], name: &str) -> Option<ValueRow>
+    ensures row { option_map (λ r. option_of (value_row r)) result ≡ reading.row_named (map option_of (map value_row rows.now)) name.now }
 {
     for row in rows {
         if row.name == name {
-            return Some(row.name);
+            return Some(*row);
         }
     }
     None

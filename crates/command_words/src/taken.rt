@@ -12,7 +12,9 @@ use crate::value_kinds::{number_in, span_in};
 pub struct Given<'a> {
     /// The name after its two hyphens.
     pub name: &'static str,
-    /// The value.
+    /// Whether it takes a value.
+    pub takes_value: bool,
+    /// The value: empty if it takes none.
     pub value: &'a str,
 }
 

@@ -15,6 +15,8 @@ pub enum Tool {
     Timeline,
     /// A run is tried with quantum ends at other places.
     Races,
+    /// The data races of a run are told.
+    Judge,
     /// A run is debugged.
     Gdb,
 }
@@ -30,14 +32,16 @@ pub enum Need {
     With(&'static str),
     /// Only without another one.
     Without(&'static str),
+    /// Only without either of two others.
+    WithoutBoth(&'static str, &'static str),
 }
 
-/// An option with a value.
+/// An option.
 #[derive(Clone, Copy)]
 pub struct ValueRow {
     /// The name after its two hyphens.
     pub name: &'static str,
-    /// What its value has to be.
+    /// What its value has to be, if it takes one.
     pub kind: Kind,
     /// When it is to be given.
     pub need: Need,
@@ -84,6 +88,7 @@ const EXPLAIN: &[ValueRow] = &[
         },
         Need::Without("steps")
     ),
+    row!("refused", Kind::Flag, Need::WithoutBoth("trace", "at")),
     SCHEDULE,
     DISK0,
     DISK1,
@@ -151,6 +156,14 @@ const RACES: &[ValueRow] = &[
     DISK1,
 ];
 
+const JUDGE: &[ValueRow] = &[
+    row!("atomic", Kind::Title { most: 255 }, Need::Optional),
+    row!("pairs", Kind::Flag, Need::Optional),
+    SCHEDULE,
+    DISK0,
+    DISK1,
+];
+
 const GDB: &[ValueRow] = &[SCHEDULE, DISK0, DISK1];
 
 impl Tool {
@@ -162,6 +175,7 @@ impl Tool {
             Tool::Explain => EXPLAIN,
             Tool::Timeline => TIMELINE,
             Tool::Races => RACES,
+            Tool::Judge => JUDGE,
             Tool::Gdb => GDB,
         }
     }

@@ -1,8 +1,9 @@
-//! What the value of an option is: a file's name, a number, a range of events, or a title.
+//! What the value of an option is: a file's name, a number, a range of events, a text, or nothing.
 
 ghost use Rattle.std.specs.Prelude.{◌≡◌, option_map};
 ghost use Rattle.std.specs.Char.{is_ascii_digit};
 ghost use Rattle.std.specs.List.{list_all};
+ghost use Rattle.command_words.specs.Tools as tools;
 ghost use Rattle.command_words.specs.ValueKinds as spec;
 
 /// What the value of an option has to be.
@@ -16,9 +17,21 @@ pub enum Kind {
     Span { greatest: u64, most: u64 },
     /// A text of one to so many bytes.
     Title { most: usize },
+    /// Nothing: the option takes no value.
+    Flag,
 }
 
 impl Kind {
+    /// Whether an option of this kind takes a value.
+    pub(crate) fn takes_value(self) -> bool
+        ensures takes { result ≡ tools.takes_value self }
+    {
+        match self {
+            Kind::File | Kind::Number { .. } | Kind::Span { .. } | Kind::Title { .. } => true,
+            Kind::Flag => false,
+        }
+    }
+
     /// Whether a value is one of this kind.
     pub(crate) fn accepts(self, value: &str) -> bool
         ensures accepts { result ≡ spec.is_value self value.now }
@@ -34,6 +47,7 @@ impl Kind {
                 None => false,
             },
             Kind::Title { most } => !value.is_empty() && value.len() <= most,
+            Kind::Flag => true,
         }
     }
 }

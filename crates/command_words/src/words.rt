@@ -116,10 +116,27 @@ fn need_fault(need: Need, name: &'static str, taken: &Taken<'_>) -> Option<Words
         Need::With(other) if is_given && !taken.is_given(other) => {
             Some(WordsFault::GoesWith { name, other })
         }
-        Need::Without(other) if is_given && taken.is_given(other) => {
-            Some(WordsFault::NotWith { name, other })
-        }
+        Need::Without(other) => pair_fault(name, other, taken),
+        Need::WithoutBoth(one, two) => match pair_fault(name, one, taken) {
+            Some(fault) => Some(fault),
+            None => pair_fault(name, two, taken),
+        },
         _ => None,
+    }
+}
+
+// What is wrong if the first option is given with the other.
+fn pair_fault(
+    name: &'static str,
+    other: &'static str,
+    taken: &Taken<'_>,
+) -> Option<WordsFault<'static>>
+    ensures fault { option_map cause_of result ≡ spec.pair_fault name.entry.now other.entry.now (taken_words taken.now) }
+{
+    if taken.is_given(name) && taken.is_given(other) {
+        Some(WordsFault::NotWith { name, other })
+    } else {
+        None
     }
 }
 

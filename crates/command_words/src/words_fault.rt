@@ -11,6 +11,8 @@ pub enum ReadingFault<'a> {
     Twice(&'static str),
     /// The option of this name has no value.
     NoValue(&'static str),
+    /// The option of this name takes no value.
+    TakesNone(&'static str),
 }
 
 /// What is wrong with the words of a command.

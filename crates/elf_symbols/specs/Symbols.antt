@@ -3,6 +3,8 @@ use Rattle.std.specs.Prelude.{ℕ, ◌+◌, ◌/◌, ◌%◌, ◌==◌, nat_le, 
 use Rattle.elf_symbols.specs.Sections.{section_count, section_numbered}
 use Rattle.elf_symbols.specs.declared.sections.Section.{Section}
 use Rattle.elf_symbols.specs.declared.symbols.Symbol.{Symbol}
+use Rattle.elf_symbols.specs.declared.symbols.Sought.{Sought}
+use Rattle.elf_symbols.specs.declared.symbols.Sought.TheVariants.{Function, Variable}
 use Rattle.xinu_model.specs.Memory.{number_at}
 
 -- the symbol that is at a place
@@ -10,6 +12,7 @@ abbrev pub symbol_at : List ℕ → ℕ → Symbol
 symbol_at bytes at = record {
   name = number_at bytes at 4;
   value = number_at bytes (at + 4) 4;
+  size = number_at bytes (at + 8) 4;
   info = slice_index bytes (at + 12);
   section = number_at bytes (at + 14) 2;
 }
@@ -40,6 +43,15 @@ has_code bytes n = nat_lt n (section_count bytes) && ((section_numbered bytes n)
 abbrev pub is_function : List ℕ → List ℕ → Symbol → Bool
 is_function bytes strings s =
     ((s.info % 16 == 2) || (s.info % 16 == 0)) && has_code bytes s.section && is_given (name_at strings s.name)
+
+-- The symbol is a variable that ends after an address, and a program gives its name.
+abbrev pub is_variable : List ℕ → ℕ → Symbol → Bool
+is_variable strings address s = (s.info % 16 == 1) && nat_lt address (s.value + s.size) && is_given (name_at strings s.name)
+
+-- The symbol is what is looked for: a function, or a variable that has the byte at an address if it begins before it or there.
+abbrev pub is_sought : Sought → List ℕ → List ℕ → ℕ → Symbol → Bool
+is_sought Function bytes strings address s = is_function bytes strings s
+is_sought Variable bytes strings address s = is_variable strings address s
 
 -- of two symbols the one with the greater address, and the first if they are equal
 abbrev pub nearer : Symbol → Option Symbol → Option Symbol

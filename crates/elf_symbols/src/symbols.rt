@@ -1,4 +1,4 @@
-//! The symbols of a file, and which of them are functions.
+//! The symbols of a file, and which of them are functions and variables.
 
 ghost use Rattle.std.specs.Prelude.{◌≡◌, ◌≤◌, ◌+◌, ◌*◌, ◌==◌, true, not, length, position, take_while, IfSome, Some};
 ghost use Rattle.elf_symbols.specs.Sections as sections;
@@ -14,16 +14,29 @@ const SYMBOL_SIZE: usize = 16;
 const FUNCTION: u8 = 2;
 /// The type of a symbol that has none.
 const UNTYPED: u8 = 0;
+/// The type of a symbol that is a variable.
+const VARIABLE: u8 = 1;
 /// The mark of a section with instructions.
 const INSTRUCTIONS: u32 = 4;
 
-/// A symbol: the fields that say which function it is.
+/// What a symbol is looked for as.
+#[derive(Clone, Copy)]
+pub enum Sought {
+    /// A function that begins at or before an address.
+    Function,
+    /// A variable that has the byte at an address.
+    Variable,
+}
+
+/// A symbol: the fields that say which function or variable it is.
 #[derive(Clone, Copy, Drop)]
 pub struct Symbol {
     /// Where its name begins among the strings.
     pub name: u32,
     /// Its address.
     pub value: u32,
+    /// How many bytes it has.
+    pub size: u32,
     /// Its type, in the lowest four bits.
     pub info: u8,
     /// The number of its section.
@@ -39,9 +52,30 @@ impl Symbol {
         Symbol {
             name: word_at(bytes, at),
             value: word_at(bytes, at + 4),
+            size: word_at(bytes, at + 8),
             info: bytes[at + 12],
             section: half_at(bytes, at + 14),
         }
+    }
+
+    // Whether it is what is looked for at an address.
+    fn is_sought(&self, sought: Sought, bytes: &[u8], strings: &[u8], address: u32) -> bool
+        requires { sections.has_sections bytes.now ≡ true }
+        ensures { result ≡ spec.is_sought sought bytes.now strings.now address self.now }
+    {
+        match sought {
+            Sought::Function => self.is_function(bytes, strings),
+            Sought::Variable => self.is_variable(strings, address),
+        }
+    }
+
+    // Whether it is a variable with the byte at an address, which isn't before it, that a program names.
+    fn is_variable(&self, strings: &[u8], address: u32) -> bool
+        ensures { result ≡ spec.is_variable strings.now address self.now }
+    {
+        self.info % 16 == VARIABLE
+            && (address as u64) < self.value as u64 + self.size as u64
+            && is_given(name_at(strings, self.name))
     }
 
     /// Whether it is a function of a section with instructions that a program names.
@@ -102,8 +136,9 @@ fn zero_in(bytes: &[u8]) -> Option<usize>
     bytes.iter().position(|b| *b == 0)
 }
 
-/// The function among so many symbols at a place that has the greatest address which isn't above an address; the first of equals.
+/// What is looked for at an address among so many symbols at a place: that with the greatest address which isn't above it; the first of equals.
 pub fn nearest(
+    sought: Sought,
     bytes: &[u8],
     strings: &[u8],
     table: usize,
@@ -112,20 +147,21 @@ pub fn nearest(
 ) -> Option<Symbol>
     requires sections { sections.has_sections bytes.now ≡ true }
     requires table { table + 16 * count ≤ length bytes.now }
-    ensures nearest { result ≡ spec.nearest (spec.is_function bytes.now strings.now) address (spec.symbols_from bytes.now table count) }
+    ensures nearest { result ≡ spec.nearest (spec.is_sought sought bytes.now strings.now address) address (spec.symbols_from bytes.now table count) }
     ensures bound { IfSome result (λ symbol. symbol.value ≤ address) }
 {
     let mut best = None;
     let mut at = table;
     for _ in 0..count {
-        best = next_best(bytes, strings, address, best, Symbol::at(bytes, at));
+        best = next_best(sought, bytes, strings, address, best, Symbol::at(bytes, at));
         at += SYMBOL_SIZE;
     }
     best
 }
 
-// The nearest function after one symbol more.
+// The nearest so far after one symbol more.
 fn next_best(
+    sought: Sought,
     bytes: &[u8],
     strings: &[u8],
     address: u32,
@@ -133,9 +169,9 @@ fn next_best(
     symbol: Symbol,
 ) -> Option<Symbol>
     requires { sections.has_sections bytes.now ≡ true }
-    ensures { result ≡ so_far.next_best (spec.is_function bytes.now strings.now) address best symbol }
+    ensures { result ≡ so_far.next_best (spec.is_sought sought bytes.now strings.now address) address best symbol }
 {
-    if symbol.is_function(bytes, strings) && symbol.value <= address {
+    if symbol.is_sought(sought, bytes, strings, address) && symbol.value <= address {
         nearer(best, symbol)
     } else {
         best

@@ -4,7 +4,7 @@ use Rattle.std.specs.Fmt.{decimal}
 use Rattle.command_line.specs.Reading.{ReadingFault, Unknown, Twice, NoValue, TakesNone}
 use Rattle.command_words.specs.Words.{WordsFault, Unreadable, BadValue, Missing, GoesWith, NotWith, NoImage, ManyImages, NamelessImage}
 use Rattle.command_words.specs.declared.value_kinds.Kind.{Kind}
-use Rattle.command_words.specs.declared.value_kinds.Kind.TheVariants.{File, Number, Span, Title}
+use Rattle.command_words.specs.declared.value_kinds.Kind.TheVariants.{File, Number, Span, Title, Flag}
 
 -- three parts of a line
 abbrev pub joined : List ℕ → List ℕ → List ℕ → List ℕ
@@ -20,6 +20,7 @@ kind_text File = codes "the name of a file"
 kind_text (Number least most) = around (codes "a number from ") least (codes " to ") ++ around (codes "") most (codes "")
 kind_text (Span greatest most) = around (codes "A..B, two numbers from 1 to ") greatest (codes ", at most ") ++ around (codes "") most (codes " events")
 kind_text (Title most) = around (codes "a text of 1 to ") most (codes " bytes")
+kind_text Flag = codes "nothing"
 
 -- an option, and what is said of it
 abbrev pub option_text : List ℕ → List ℕ → List ℕ

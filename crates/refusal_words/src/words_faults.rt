@@ -46,6 +46,7 @@ fn push_reading_fault(text: &mut Vec<u8>, fault: ReadingFault<'_>) -> Result<(),
         ReadingFault::Unknown(arg) => push_joined(text, "there is no option ", arg, "\n"),
         ReadingFault::Twice(name) => push_option(text, name, " is given twice\n"),
         ReadingFault::NoValue(name) => push_option(text, name, " has no value\n"),
+        ReadingFault::TakesNone(name) => push_option(text, name, " takes no value\n"),
     }
 }
 
@@ -86,6 +87,7 @@ fn push_kind(text: &mut Vec<u8>, kind: Kind) -> Result<(), AllocError>
             push_around(text, "", most, " events")
         }
         Kind::Title { most } => push_around(text, "a text of 1 to ", most as u64, " bytes"),
+        Kind::Flag => text.extend_from_slice(b"nothing"),
     }
 }
 
