@@ -22,10 +22,10 @@ pub(crate) struct Doer {
 
 impl Doer {
     // The entry of an access.
-    fn entry(self, stores: bool) -> Entry
-        ensures event { result.event ≡ self.entry.event }
-        ensures place { result.place ≡ self.entry.place }
-        ensures process { result.process ≡ self.entry.process }
+    fn entry(&self, stores: bool) -> Entry
+        ensures event { result.event ≡ self.now.event }
+        ensures place { result.place ≡ self.now.place }
+        ensures process { result.process ≡ self.now.process }
         ensures stores { result.stores ≡ stores }
         ensures below { result.process < 64 }
     {
@@ -82,7 +82,7 @@ impl Acts {
     }
 
     // A byte is loaded, or stored.
-    fn touch(&mut self, doer: Doer, stores: bool, byte: usize) -> Result<(), AllocError>
+    fn touch(&mut self, doer: &Doer, stores: bool, byte: usize) -> Result<(), AllocError>
         requires byte_in { byte < 1048576 }
     {
         self.acts.push(Act::Touch(byte, doer.entry(stores)))?;
@@ -95,7 +95,7 @@ impl Acts {
     /// Out of memory: some of them may be among the deeds.
     pub(crate) fn touch_all(
         &mut self,
-        doer: Doer,
+        doer: &Doer,
         stores: bool,
         address: u32,
         count: u32,
@@ -114,7 +114,7 @@ impl Acts {
     ///
     /// # Errors
     /// Out of memory.
-    pub(crate) fn load(&mut self, doer: Doer, address: u32, count: u32) -> Result<(), AllocError> {
+    pub(crate) fn load(&mut self, doer: &Doer, address: u32, count: u32) -> Result<(), AllocError> {
         self.touch_all(doer, false, address, count)
     }
 
@@ -122,7 +122,12 @@ impl Acts {
     ///
     /// # Errors
     /// Out of memory.
-    pub(crate) fn store(&mut self, doer: Doer, address: u32, count: u32) -> Result<(), AllocError> {
+    pub(crate) fn store(
+        &mut self,
+        doer: &Doer,
+        address: u32,
+        count: u32,
+    ) -> Result<(), AllocError> {
         self.touch_all(doer, true, address, count)
     }
 

@@ -189,10 +189,11 @@ fn semaphores_of(k: &KernelState) -> [SemaphoreAhead; 128] {
 /// What is kept of a semaphore.
 pub fn semaphore_of(k: &KernelState, sem: Sem) -> SemaphoreAhead {
     let owner = k.tables.owner_of(sem);
+    let orders = is_ordering(&owner, &k.ports, sem.index());
     SemaphoreAhead {
         owner,
         tokens: tokens_of(&k.tables, sem),
-        orders: is_ordering(owner, &k.ports, sem),
+        orders,
     }
 }
 
@@ -203,15 +204,21 @@ fn tokens_of(tables: &KernelTables, sem: Sem) -> u32 {
 }
 
 // Whether the tokens of a semaphore order processes.
-fn is_ordering(owner: Option<Owner>, ports: &Ports, sem: Sem) -> bool {
+fn is_ordering(owner: &Option<Owner>, ports: &Ports, number: usize) -> bool {
     match owner {
         Some(Owner::Image) => true,
-        Some(Owner::Port(q)) => match ports.head_of(q) {
-            Some(head) => head.send == sem,
-            None => false,
-        },
+        Some(Owner::Port(q)) => is_room_of(ports, *q, number),
         _ => false,
     }
+}
+
+// Whether a semaphore is that of a port's room.
+fn is_room_of(ports: &Ports, q: Port, number: usize) -> bool {
+    let Some(head) = ports.head_of(q) else {
+        return false;
+    };
+    let send = head.send;
+    send.index() == number
 }
 
 // The ports.

@@ -11,7 +11,7 @@ use xinu_base::{Call, Kind, Rest};
 /// Out of memory.
 pub(crate) fn push_console(
     acts: &mut Acts,
-    doer: Doer,
+    doer: &Doer,
     call: &Call,
     left: Rest,
     answer: u32,
@@ -33,7 +33,7 @@ pub(crate) fn push_console(
 /// Out of memory.
 pub(crate) fn push_continued(
     acts: &mut Acts,
-    doer: Doer,
+    doer: &Doer,
     was: Rest,
     left: Rest,
     answer: u32,
@@ -56,7 +56,7 @@ fn halfway(returned: bool) -> u32 {
 // A write goes on from where so many bytes were loaded.
 fn push_write(
     acts: &mut Acts,
-    doer: Doer,
+    doer: &Doer,
     at: u32,
     done: u32,
     want: u32,
@@ -72,7 +72,7 @@ fn push_write(
 // A read goes on from where so many bytes were stored.
 fn push_read(
     acts: &mut Acts,
-    doer: Doer,
+    doer: &Doer,
     at: u32,
     done: u32,
     left: Rest,

@@ -19,7 +19,7 @@ const BLOCK: u32 = 512;
 /// Out of memory.
 pub(crate) fn push_raw(
     acts: &mut Acts,
-    doer: Doer,
+    doer: &Doer,
     call: &Call,
     k: &KernelState,
 ) -> Result<(), AllocError> {
@@ -53,7 +53,7 @@ pub(crate) fn push_completion(
             process,
             place,
         };
-        acts.store(doer, request.at, BLOCK)?;
+        acts.store(&doer, request.at, BLOCK)?;
     }
     Ok(())
 }
@@ -99,7 +99,7 @@ fn push_effect(
         return Ok(());
     };
     if reply > 0 {
-        acts.store(waiter(event, ahead, process), call.at, reply as u32)?;
+        acts.store(&waiter(event, ahead, process), call.at, reply as u32)?;
     }
     Ok(())
 }
@@ -113,7 +113,7 @@ fn push_first(
 ) -> Result<(), AllocError> {
     match (call.caller, call.call) {
         (Some(process), FileCall::Write(_)) => {
-            acts.load(waiter(event, ahead, process), call.at, call.count)
+            acts.load(&waiter(event, ahead, process), call.at, call.count)
         }
         _ => Ok(()),
     }
@@ -134,7 +134,7 @@ fn waiter(event: u32, ahead: &Ahead, process: Pid) -> Doer {
 /// Out of memory.
 pub(crate) fn push_issue(
     acts: &mut Acts,
-    doer: Doer,
+    doer: &Doer,
     call: &Call,
     ahead: &Ahead,
     k: &KernelState,

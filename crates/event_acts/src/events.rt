@@ -57,8 +57,8 @@ fn begin_step(acts: &mut Acts, event: u32, k: &KernelState) -> Result<bool, Allo
             process,
             place: place_in(k),
         };
-        push_texts(acts, doer, call, &k.ram)?;
-        push_raw(acts, doer, call, k)?;
+        push_texts(acts, &doer, call, &k.ram)?;
+        push_raw(acts, &doer, call, k)?;
     }
     Ok(true)
 }
@@ -78,7 +78,7 @@ fn push_transfer(
             process,
             place: hart.pc,
         };
-        acts.touch_all(doer, transfer.stores, transfer.address, transfer.count)?;
+        acts.touch_all(&doer, transfer.stores, transfer.address, transfer.count)?;
     }
     Ok(())
 }
@@ -117,7 +117,7 @@ fn end_step(
     ahead: &Ahead,
     k: &KernelState,
 ) -> Result<(), AllocError> {
-    let doer = doer_in(number, ahead);
+    let doer = &doer_in(number, ahead);
     let left = k.tables.process(ahead.current).rest;
     let answer = k.harts[ahead.current.index()].regs[10];
     match &ahead.call {
@@ -132,7 +132,7 @@ fn end_step(
 // What a call does, once it was made.
 fn push_call(
     acts: &mut Acts,
-    doer: Doer,
+    doer: &Doer,
     call: &Call,
     ahead: &Ahead,
     k: &KernelState,
@@ -150,7 +150,7 @@ fn push_call(
 // The name of a process that begins is loaded.
 fn push_names(
     acts: &mut Acts,
-    doer: Doer,
+    doer: &Doer,
     address: u32,
     ahead: &Ahead,
     k: &KernelState,

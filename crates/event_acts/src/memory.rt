@@ -29,7 +29,7 @@ fn stack_low(top: u32, bytes: u32) -> u32 {
 /// Out of memory.
 pub(crate) fn push_heap(
     acts: &mut Acts,
-    doer: Doer,
+    doer: &Doer,
     call: &Call,
     answer: u32,
 ) -> Result<(), AllocError> {
@@ -87,7 +87,7 @@ pub(crate) fn push_deaths(
             };
             let was = &ahead.processes[p];
             acts.store(
-                doer,
+                &doer,
                 stack_low(was.stack, was.stack_size),
                 rounded(was.stack_size),
             )?;
@@ -102,7 +102,7 @@ pub(crate) fn push_deaths(
 /// Out of memory.
 pub(crate) fn push_buffers(
     acts: &mut Acts,
-    doer: Doer,
+    doer: &Doer,
     ahead: &Ahead,
     k: &KernelState,
 ) -> Result<(), AllocError> {
@@ -120,7 +120,7 @@ pub(crate) fn push_buffers(
 // The buffers of a pool.
 fn push_pool(
     acts: &mut Acts,
-    doer: Doer,
+    doer: &Doer,
     ahead: &Ahead,
     k: &KernelState,
     i: PoolId,

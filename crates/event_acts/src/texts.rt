@@ -29,7 +29,7 @@ pub(crate) fn name_length(ram: &Ram, address: u32) -> u32 {
 /// Out of memory.
 pub(crate) fn push_texts(
     acts: &mut Acts,
-    doer: Doer,
+    doer: &Doer,
     call: &Call,
     ram: &Ram,
 ) -> Result<(), AllocError> {
@@ -45,7 +45,7 @@ pub(crate) fn push_texts(
 }
 
 // Two texts, the second of which is looked at if the first has an end.
-fn push_two(acts: &mut Acts, doer: Doer, a: u32, b: u32, ram: &Ram) -> Result<(), AllocError> {
+fn push_two(acts: &mut Acts, doer: &Doer, a: u32, b: u32, ram: &Ram) -> Result<(), AllocError> {
     push_text(acts, doer, a, ram)?;
     if has_end(ram, a) {
         push_text(acts, doer, b, ram)?;
@@ -54,7 +54,7 @@ fn push_two(acts: &mut Acts, doer: Doer, a: u32, b: u32, ram: &Ram) -> Result<()
 }
 
 // A text.
-fn push_text(acts: &mut Acts, doer: Doer, address: u32, ram: &Ram) -> Result<(), AllocError> {
+fn push_text(acts: &mut Acts, doer: &Doer, address: u32, ram: &Ram) -> Result<(), AllocError> {
     acts.load(doer, address, text_length(ram, address))
 }
 

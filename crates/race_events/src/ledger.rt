@@ -171,7 +171,7 @@ impl Ledger {
         let mut dead: Dead = [None; 64];
         for w in 0..64 {
             let p = Pid::at(w);
-            if p != u && dies(ahead, k, p) {
+            if w != u.index() && dies(ahead, k, p) {
                 let name = self.names.keep(detector, event, p)?;
                 dead[w] = Some(name);
             }

@@ -134,7 +134,7 @@ impl Watcher {
         let mut known = Vec::new(self.alloc);
         for v in 0..64 {
             let p = Pid::at(v);
-            if p != u && wakes(ahead, k, p) {
+            if v != u.index() && wakes(ahead, k, p) {
                 known.push(Known {
                     process: v,
                     name: own,
@@ -143,7 +143,7 @@ impl Watcher {
         }
         for v in 0..64 {
             let p = Pid::at(v);
-            if p != u && begins(ahead, k, p) {
+            if v != u.index() && begins(ahead, k, p) {
                 known.push(Known {
                     process: v,
                     name: own,
