@@ -16,7 +16,7 @@ import sys
 
 TOP = os.path.dirname(os.path.dirname(os.path.abspath(__file__)))
 SOURCES = ("crates/*/src/**/*.rt", "crates/*/specs/**/*.antt", "crates/*/proofs/**/*.antt", "bench/*", "bench/system/*", "sdk/*", "sdk/*/*",
-           "web/*", "web/*/*", "examples/*/*", "labs/*/*", "labs/*/*/*", "crates.txt", "crates/*/must-fail/*", "crates/*/data/*", "crates/sessions/args", "docs/changes/*")
+           "web/*", "web/*/*", "examples/*/*", "labs/*/*", "labs/*/*/*", "crates.txt", "crates/*/must-fail/*", "crates/*/data/*", "crates/sessions/args", "changes/*")
 WORD = re.compile(r"[A-Za-z_][A-Za-z0-9_]*")
 NAME = re.compile(r"[A-Za-z][A-Za-z0-9]*_[A-Za-z0-9_]+|[a-z0-9]+[A-Z]\w*|[A-Z][a-z0-9]+[A-Z]\w*|\w+(?:::\w+)+")
 PATH = re.compile(r"[\w.-]+(?:/[\w.*-]+)+/?|[\w-]+\.(?:rt|antt|md|py|txt|s|c|h|ld|mk|svg|edit)")
@@ -30,7 +30,7 @@ MADE = {"out/xinu_run", "web/out/xinu.html", "sum.s", "steps.txt", "check.txt", 
 def pages():
     """The paths of the pages, from the top."""
     found = ["README.md", "CHANGELOG.md"]
-    for folder in ("docs", "sdk", "examples", "labs", "web"):
+    for folder in ("docs", "sdk", "examples", "labs", "web", "bench", "changes"):
         found += sorted(glob.glob(os.path.join(folder, "**", "*.md"), recursive=True))
     return found
 
