@@ -1,30 +1,20 @@
 //! The run that is judged: its events are taken, and the detector is told of each.
 
-ghost use Rattle.std.specs.Prelude.{◌≡◌, ◌<◌, false, true, IfOk};
-ghost use Rattle.machine.specs.RunEnds.{end_of_go};
+ghost use Rattle.std.specs.Prelude.{◌≡◌, ◌<◌, false, true, IfOk, OnOk};
+ghost use Rattle.judge_command.specs.Judging.{IsJudgement};
 ghost use Rattle.replayed_run.specs.Replayed.{HasInputs, is_at_end};
 
 use crate::calls::call_ahead;
 use crate::history::History;
-use crate::reports::Reports;
+use crate::reports::{Judgement, Reports};
 use crate::words::Asked;
 use host_port::HostFault;
-use machine::Go;
 use race_events::Watcher;
 use replayed_run::Replay;
-use std::alloc::{AllocError, Global};
+use std::alloc::Global;
 use xinu_base::Event;
 
-/// What is told of the data races of a run.
-#[derive(Drop)]
-pub(crate) struct Judgement {
-    /// The text.
-    pub(crate) text: String,
-    /// How many there are, of each owner of bytes one.
-    pub(crate) races: usize,
-}
-
-/// The judgement of a run before its first event.
+/// What is told of the data races of a run, which is before its first event.
 ///
 /// # Errors
 /// Out of memory.
@@ -32,16 +22,28 @@ pub(crate) fn judgement_of(
     alloc: Global,
     replay: &mut Replay,
     asked: Asked<'_>,
-) -> Result<Judgement, HostFault> {
+) -> Result<Judgement, HostFault>
+    ensures judges { IfOk result (λ j. IsJudgement replay.old j.races j.text.items) }
+{
     let mut watcher = Watcher::new(alloc)?;
     let mut history = History::new(alloc);
     let mut reports = Reports::new(alloc, asked);
     history.note(replay.state(), 0, None)?;
-    take_events(replay, &mut watcher, &mut history, &mut reports)?;
-    Ok(Judgement {
-        races: reports.count(),
-        text: reports.text(alloc, replay.taken())?,
-    })
+    judge(replay, &mut watcher, &mut history, &mut reports)
+}
+
+// The same, with nothing noted but who lives.
+fn judge(
+    replay: &mut Replay,
+    watcher: &mut Watcher,
+    history: &mut History,
+    reports: &mut Reports<'_>,
+) -> Result<Judgement, HostFault>
+    ensures judges { IfOk result (λ j. IsJudgement replay.old j.races j.text.items) }
+{
+    take_events(replay, watcher, history, reports)?;
+    replay.runs();
+    Ok(reports.judgement(replay.taken())?)
 }
 
 // Takes the events until the run ends.
@@ -51,35 +53,42 @@ fn take_events(
     watcher: &mut Watcher,
     history: &mut History,
     reports: &mut Reports<'_>,
-) -> Result<(), HostFault> {
+) -> Result<(), HostFault>
+    ensures inputs { OnOk result (HasInputs replay.old.disks replay.old.files replay.old.events replay.new) }
+    ensures ended { OnOk result (is_at_end replay.new ≡ true) }
+{
     while let Some(event) = replay.next() {
         watcher.ahead(replay.state(), event)?;
-        let go = take_event(replay, event, history)?;
+        take_event(replay, event, history)?;
         watcher.after(replay.state())?;
         reports.tell(watcher.told(), history, replay)?;
-        if !matches!(go, Go::Goes) {
-            return Ok(());
-        }
     }
     Ok(())
 }
 
 // Takes the event that comes next, and notes what it means for owners of bytes: nothing, if it is a step that prints nothing.
-fn take_event(replay: &mut Replay, event: Event, history: &mut History) -> Result<Go, HostFault> {
+fn take_event(replay: &mut Replay, event: Event, history: &mut History) -> Result<(), HostFault>
+    requires goes_on { is_at_end replay.old ≡ false }
+    ensures further { OnOk result (replay.old.taken < replay.new.taken) }
+    ensures inputs { HasInputs replay.old.disks replay.old.files replay.old.events replay.new }
+{
     if replay.take_steps(1) == 1 {
-        return Ok(Go::Goes);
+        return Ok(());
     }
     let call = call_ahead(replay.state(), event);
-    let go = take(replay)?;
+    take(replay)?;
     history.note(replay.state(), replay.taken(), call)?;
-    Ok(go)
+    Ok(())
 }
 
 // Takes the event that comes next.
-fn take(replay: &mut Replay) -> Result<Go, HostFault> {
+fn take(replay: &mut Replay) -> Result<(), HostFault>
+    requires goes_on { is_at_end replay.old ≡ false }
+    ensures further { OnOk result (replay.old.taken < replay.new.taken) }
+    ensures inputs { HasInputs replay.old.disks replay.old.files replay.old.events replay.new }
+{
     match replay.take() {
-        Ok(Some(taken)) => Ok(taken.go),
-        Ok(None) => Ok(Go::Goes),
+        Ok(_) => Ok(()),
         Err(fault) => Err(HostFault::from(fault)),
     }
 }

@@ -9,9 +9,13 @@
 //! the kernel orders the first before the second, the first being the last of its process that conflicts. Of the pairs a report is made for each owner of
 //! bytes, in the order in which they are first told: a variable, a stack, a buffer of a pool, a block of the heap, or else a word of RAM.
 //!
-//! | Call | What it does |
+//! | Call | Promise |
 //! |---|---|
-//! | [`judge`] | tells the data races of the run that the arguments ask for, or refuses as `run` does, and answers the exit status: 0 if there is none, 15 if there are some, 7 if memory ran out |
+//! | [`judge`] | `answers`: the command is carried out as its arguments ask, and its end is told by a status (`Answers` in `specs/Theorem.antt`): 0 if no data race is told, 15 if some are, 7 if memory ran out |
+//!
+//! The text that is sent tells of the run of the inputs, through the schedule to its end: its last line has the number of reports and that of the run's
+//! events, and nothing is before it if there is no report (`IsJudgement` in `specs/Judging.antt`). What the reports say has no clause. Running
+//! out of memory is free.
 #![tactic(auto)]
 
 mod blocks;

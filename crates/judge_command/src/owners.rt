@@ -4,8 +4,11 @@ use crate::history::History;
 use buffer_pools::Pools;
 use kernel_state::KernelState;
 use printed_runs::Text;
-use told_places::{nearest_variable, shown};
+use told_places::{Place, nearest_function, nearest_variable, shown};
 use xinu_base::{PoolId, call_name};
+
+/// How many bytes after a label of assembler are told by it at most.
+const NEAR: u32 = 4096;
 
 /// What an owner of bytes is.
 #[derive(Clone, Copy)]
@@ -122,20 +125,36 @@ pub(crate) fn add_owner(
     files: &[Vec<u8>],
 ) {
     match owner.sort {
-        Sort::Variable => add_variable(text, byte, files),
+        Sort::Variable | Sort::Word => add_named(text, owner, byte, files),
         Sort::Stack(at) => add_stack(text, at, byte, history),
         Sort::Buffer(pool) => {
             text.numbered(" on a buffer of pool ", pool as u64);
             text.put(",");
         }
         Sort::Block(at) => add_block(text, at, history),
-        Sort::Word => {}
     }
 }
 
-// Adds a variable, and how far a byte is from its beginning.
-fn add_variable(text: &mut Text, byte: u32, files: &[Vec<u8>]) {
-    if let Some(place) = nearest_variable(files, byte) {
+/// The name that a program gives to a byte of an owner, and how far the byte is from where it begins: a variable, or of a word that is none the
+/// label of assembler before it.
+pub(crate) fn name_of<'a>(owner: &Owner, byte: u32, files: &'a [Vec<u8>]) -> Option<Place<'a>> {
+    match owner.sort {
+        Sort::Variable => nearest_variable(files, byte),
+        Sort::Word => {
+            let place = nearest_function(files, byte)?;
+            if place.offset < NEAR {
+                Some(place)
+            } else {
+                None
+            }
+        }
+        _ => None,
+    }
+}
+
+// Adds the name of a byte, and how far the byte is from where it begins.
+fn add_named(text: &mut Text, owner: &Owner, byte: u32, files: &[Vec<u8>]) {
+    if let Some(place) = name_of(owner, byte, files) {
         text.put(" on ");
         text.put(shown(place.name));
         if place.offset != 0 {

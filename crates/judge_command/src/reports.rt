@@ -1,15 +1,29 @@
 //! The reports of a run: one for each owner of bytes that are raced for.
 
+ghost use Rattle.std.specs.Prelude.{◌≡◌, ◌++◌, IfOk, OnOk};
+ghost use Rattle.judge_command.specs.Judging as specs;
+ghost use Rattle.judge_command.specs.Judging.{EndsInLine};
+
 use crate::history::History;
-use crate::owners::{Owner, Sort, add_owner, owner_of};
+use crate::owners::{Owner, Sort, add_owner, name_of, owner_of};
 use crate::recent::{Recent, Spot};
 use crate::telling::{add_access, add_visitor};
 use crate::words::Asked;
+use itoa::Buffer;
 use printed_runs::Text;
 use race_detector::Pair;
 use replayed_run::Replay;
 use std::alloc::{AllocError, Global};
-use told_places::{nearest_variable, shown};
+use told_places::shown;
+
+/// What is told of the data races of a run.
+#[derive(Drop)]
+pub(crate) struct Judgement {
+    /// The text.
+    pub(crate) text: Vec<u8>,
+    /// How many there are, of each owner of bytes one.
+    pub(crate) races: usize,
+}
 
 // A report of one owner.
 #[derive(Drop)]
@@ -53,17 +67,6 @@ impl<'a> Reports<'a> {
             recent: Recent::new(),
             told: 0,
         }
-    }
-
-    /// How many there are, without those that are left out.
-    pub(crate) fn count(&self) -> usize {
-        let mut count = 0usize;
-        for report in &self.reports {
-            if !report.is_out {
-                count = count.saturating_add(1);
-            }
-        }
-        count
     }
 
     /// Tells the pairs of accesses that came with the last event. All pairs so far are given.
@@ -187,34 +190,80 @@ impl<'a> Reports<'a> {
         }
     }
 
-    /// The text of them all, after so many events.
+    /// What is told of a run of so many events.
     ///
     /// # Errors
     /// Out of memory, also if it ran out before.
-    pub(crate) fn text(&self, alloc: Global, events: u32) -> Result<String, AllocError> {
-        let mut text = Text::new(alloc);
+    pub(crate) fn judgement(&self, events: u32) -> Result<Judgement, AllocError>
+        ensures line { IfOk result (λ j. EndsInLine j.races events j.text.items) }
+    {
+        let races = self.count();
+        let reports = self.text()?;
+        let told = if races == 0 {
+            ""
+        } else {
+            reports.as_str()
+        };
+        let mut text = Vec::new(self.alloc);
+        text.extend_from_slice(told.as_bytes())?;
+        push_last(&mut text, races, events)?;
+        Ok(Judgement { text, races })
+    }
+
+    // How many reports there are, without those that are left out.
+    fn count(&self) -> usize {
+        let mut count = 0usize;
+        for report in &self.reports {
+            if !report.is_out {
+                count = count.saturating_add(1);
+            }
+        }
+        count
+    }
+
+    // The text of them all, without those that are left out.
+    fn text(&self) -> Result<String, AllocError> {
+        let mut text = Text::new(self.alloc);
         for report in &self.reports {
             if !report.is_out {
                 text.add(&report.text);
                 add_further(&mut text, report.further);
             }
         }
-        match self.count() {
-            0 => text.put("No data race"),
-            1 => text.put("1 data race"),
-            count => {
-                text.number(count as u64);
-                text.put(" data races");
-            }
-        }
-        text.numbered(" in ", events as u64);
-        text.put(if events == 1 {
-            " event.\n"
-        } else {
-            " events.\n"
-        });
         text.whole()
     }
+}
+
+// Appends the last line.
+#[tactic(auto, unfolding(crate::specs::Judging::last_line))]
+fn push_last(text: &mut Vec<u8>, races: usize, events: u32) -> Result<(), AllocError>
+    ensures line { OnOk result (text.new.items ≡ text.old.items ++ specs.last_line races events) }
+{
+    let mut digits = Buffer::new();
+    push_count(text, races)?;
+    text.extend_from_slice(b" in ")?;
+    text.extend_from_slice(digits.format(events).as_bytes())?;
+    if events == 1 {
+        text.extend_from_slice(b" event.\n")
+    } else {
+        text.extend_from_slice(b" events.\n")
+    }
+}
+
+// Appends how many data races there are.
+#[tactic(auto, unfolding(crate::specs::Judging::count_words))]
+fn push_count(text: &mut Vec<u8>, races: usize) -> Result<(), AllocError>
+    ensures count { OnOk result (text.new.items ≡ text.old.items ++ specs.count_words races) }
+{
+    if races == 0 {
+        return text.extend_from_slice(b"No data race");
+    }
+    if races == 1 {
+        return text.extend_from_slice(b"1 data race");
+    }
+    let mut digits = Buffer::new();
+    text.extend_from_slice(digits.format(races).as_bytes())?;
+    text.extend_from_slice(b" data races")
 }
 
 // Adds how many pairs of places more there are.
@@ -229,14 +278,11 @@ fn add_further(text: &mut Text, further: u64) {
     }
 }
 
-// Whether an owner is a variable that is left out.
+// Whether an owner is one whose name is left out.
 fn is_left_out(asked: &Asked<'_>, owner: &Owner, byte: u32, files: &[Vec<u8>]) -> bool {
-    match owner.sort {
-        Sort::Variable => match nearest_variable(files, byte) {
-            Some(place) => asked.leaves_out(shown(place.name)),
-            None => false,
-        },
-        _ => false,
+    match name_of(owner, byte, files) {
+        Some(place) => asked.leaves_out(shown(place.name)),
+        None => false,
     }
 }
 

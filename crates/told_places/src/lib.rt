@@ -3,6 +3,7 @@
 //! | Call | What it does |
 //! |---|---|
 //! | [`add_function`] | adds the function in which an address is, and how far the address is from its beginning |
+//! | [`nearest_function`] | the function, or label, that begins nearest before an address, of all files |
 //! | [`nearest_variable`] | the variable that has the byte at an address, of all files |
 //! | [`shown`] | bytes as a text |
 //!
@@ -11,4 +12,5 @@
 
 mod places;
 
-pub use places::{add_function, nearest_variable, shown};
+pub use elf_symbols::Place;
+pub use places::{add_function, nearest_function, nearest_variable, shown};

@@ -9,7 +9,7 @@ use xinu_base::RAM_SIZE;
 /// RAM.
 pub fn add_function(text: &mut Text, words: &str, files: &[Vec<u8>], address: u32) {
     if address < RAM_SIZE {
-        if let Some(place) = nearest(files, address) {
+        if let Some(place) = nearest_function(files, address) {
             text.put(words);
             text.put(shown(place.name));
             text.numbered("+", place.offset as u64);
@@ -17,8 +17,8 @@ pub fn add_function(text: &mut Text, words: &str, files: &[Vec<u8>], address: u3
     }
 }
 
-// The function that begins nearest before an address, of all files.
-fn nearest(files: &[Vec<u8>], address: u32) -> Option<Place<'_>> {
+/// The place of an address after the function, or label of assembler, that begins nearest before it, of all files.
+pub fn nearest_function(files: &[Vec<u8>], address: u32) -> Option<Place<'_>> {
     let mut best: Option<Place<'_>> = None;
     for file in files {
         best = nearer(best, function_at(file.as_slice(), address));
