@@ -4,7 +4,7 @@ import re
 import sys
 import tempfile
 
-from . import debugging, disks, making, proving, races, running, step, term
+from . import debugging, disks, judging, making, proving, races, running, step, term
 from .home import find_program, is_proved, version
 from .paint import RED, painted
 from .programs import built
@@ -12,8 +12,8 @@ from .refusal import Refusal
 from .schedules import like
 from .words import COMMANDS, parser
 
-RUNNERS = {"run": running.run, "why": running.why, "term": term.term, "gdb": debugging.gdb, "races": races.races, "prove": proving.prove,
-           "picture": running.picture, "step": step.step, "check": running.check}
+RUNNERS = {"run": running.run, "why": running.why, "term": term.term, "gdb": debugging.gdb, "judge": judging.judge, "races": races.races,
+           "prove": proving.prove, "picture": running.picture, "step": step.step, "check": running.check}
 MAKERS = {"new": making.new, "asm": making.asm, "disk": disks.disk}
 
 

@@ -7,7 +7,7 @@ import subprocess
 from . import assembler, elf
 from .tools import CROSS, is_program
 
-ADDRESS = re.compile(r"\bpc 0x([0-9a-f]{8})")
+ADDRESS = re.compile(r"(?:\bpc|\b(?:loads|stores)(?: \(in \w+\))? at|^Data race at) 0x([0-9a-f]{8})")
 PLACE = re.compile(r"([A-Za-z_.$][\w.$]*)\+(\d+)")
 RETURN = re.compile(r"returns? to|may return")
 HEADER = re.compile(r"\b(xinu|xcalls)\.h:")

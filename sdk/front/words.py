@@ -14,6 +14,7 @@ COMMANDS = {
     "why": ("tells a run in words, with the lines of the source", ["why deadlock.c", "why --steps 1..40 hello.s"]),
     "term": ("types at the running program", ["term shell.c", "term --keep typed.txt shell.c"]),
     "gdb": ("starts gdb on the run, forward and backward", ["gdb crash.c"]),
+    "judge": ("tells the data races of a run, with the lines of the source", ["judge counter.c", "judge --atomic ready wakeup.c"]),
     "races": ("tries a preemption at every place, and tells the outcomes", ["races counter.c", "races --preemptions 2 --within 45 order.c"]),
     "prove": ("proves that programs keep the rule of a lock on every schedule",
               ["prove first.s second.s", "prove --lock 4 --word counter --rule rounds first.s"]),
@@ -25,7 +26,7 @@ COMMANDS = {
     "help": ("shows examples of a command", ["help races"]),
 }
 # those that run programs
-RUNNERS = ("run", "why", "term", "gdb", "races", "picture", "step", "check")
+RUNNERS = ("run", "why", "term", "gdb", "judge", "races", "picture", "step", "check")
 PROGRAM = f"""PROGRAM is a program in C (.c) or assembler (.s), or a file that was built: an ELF file, as make
 leaves it, or an image file. Up to eight run together. A program in C is compiled as sdk/xinu.mk does
 it, with $CFLAGS; a second one is put behind the first. Without --schedule there are rounds (1000
@@ -112,6 +113,8 @@ def add_of_run(commands):
     parsers["why"].add_argument("--steps", type=steps, metavar="A..B", help="list the events from A to B first")
     parsers["term"].add_argument("--keep", metavar="FILE", help="keep the schedule in this file, not in PROGRAM.schedule")
     parsers["gdb"].add_argument("--ex", dest="gdb", action="append", default=[], metavar="COMMAND", help="let gdb carry out a command, and end")
+    parsers["judge"].add_argument("--atomic", metavar="NAME,..", help="leave out these variables")
+    parsers["judge"].add_argument("--pairs", action="store_true", help="tell each pair of places")
     parsers["races"].add_argument("--preemptions", type=number_between(0, 3), default=1, metavar="P", help="at most P preemptions in a run (1)")
     parsers["races"].add_argument("--within", type=number_between(1, 1000000), metavar="N",
                                   help="within the first N steps (1000 for one preemption, 60 for two, 20 for three)")

@@ -1,8 +1,9 @@
-"""Labs of programs with a mistake each: a student hands in the repaired ones, and in lab 11 which lines were wrong."""
+"""Labs of programs with a mistake each: a student hands in the repaired ones, and in lab 11 which lines were wrong. Lab 10 has a row beside its
+programs: no run has a data race."""
 import os
 import shutil
 
-from judge import run
+from judge import limited, program as xinu_run, run
 from repairs import programs_of
 
 from .places import LABS, has
@@ -42,6 +43,22 @@ def races_fault(program, place, seconds, steps):
     if runs is None:
         return f"races takes more than {seconds} s"
     return None if program.is_only(found) else f"{runs} runs, preempted in the first {steps} steps, have {len(found)} outcomes"
+
+
+def data_race(program, place, seconds):
+    """What `judge` tells of a program's run: the first data race, or none."""
+    words = ["judge", "--schedule", "schedule.txt", f"{program.name}.elf"]
+    status, told, _ = limited([xinu_run(), *words], place, seconds)
+    if status == 0:
+        return None
+    head = told.partition("\n")[0].rstrip(":")
+    return head[:1].lower() + head[1:] if status == 15 else f"judge takes more than {seconds} s" if status is None else "there is no run to judge"
+
+
+def no_race_row(programs, place, seconds):
+    """The row of a lab on races that no run of its programs has a data race."""
+    found = next((f"{program.name}: {race}" for program in programs if (race := data_race(program, place, seconds))), None)
+    return Row(found or "no data race", not found, int(not found), 0, 1)
 
 
 def program_fault(program, place, seconds):
@@ -90,6 +107,8 @@ def grade_repairs(lab, folder, place, words):
     programs = programs_of(os.path.join(LABS, lab, "programs.txt"))
     has_further = any(program.bound[1] for program in programs)
     rows = [row for program in programs for row in rows_of(program, place, words.limit, named, right)]
+    if has_further:
+        rows.append(no_race_row(programs, place, words.limit))
     with_points(rows, has_further)
     wrong = [row.words for row in rows if row.points < row.of]
     further = f"{sum(row.further for row in rows)}/{len(rows)}" if has_further else "-"

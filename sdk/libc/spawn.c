@@ -2,7 +2,8 @@
 
 /* The library asks for a lock ahead of malloc and of each use of a stream.  All are one lock,	*/
 /*   which a process may take again that has it.  Before the first xspawn there is nobody to	*/
-/*   wait for.  A process that is killed inside the library keeps the lock for ever.		*/
+/*   wait for.  Each process counts beside its errno how often it has the lock, so it looks at	*/
+/*   nothing that another one stores.  One that is killed inside the library keeps it for ever.	*/
 
 #include <malloc.h>
 #include <stdlib.h>
@@ -20,8 +21,7 @@ struct	__lock	{ char none; };
 struct	__lock	__lock___libc_recursive_mutex;
 
 static	sid32	sem = SYSERR;		/* Made by the first xspawn	*/
-static	char	*owner;			/* The tp of who has the lock	*/
-static	int	depth;			/* How often it was taken	*/
+static	_Thread_local int depth;	/* How often this process has it */
 
 /*------------------------------------------------------------------------
  *  acquire, release  -  Take the lock, and give it back
@@ -29,11 +29,8 @@ static	int	depth;			/* How often it was taken	*/
  */
 static	void	acquire(void)
 {
-	char	*me = __builtin_thread_pointer();
-
-	if (sem != SYSERR && owner != me) {
+	if (depth == 0 && sem != SYSERR) {
 		xwait(sem);
-		owner = me;
 	}
 	depth++;
 }
@@ -41,7 +38,6 @@ static	void	acquire(void)
 static	void	release(void)
 {
 	if (--depth == 0 && sem != SYSERR) {
-		owner = 0;
 		xsignal(sem);
 	}
 }

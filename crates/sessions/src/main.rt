@@ -15,7 +15,7 @@
 //! | `$ xinu ARGUMENTS` | what the top call prints with these arguments: what it sends on Out and on Fault, and its status if it isn't 0 |
 //! | `$ full K ARGUMENTS` | likewise over a host that has no memory at its call K, the first being 1 |
 //! | `$ failing ARGUMENTS` | for each call of the host that `xinu` makes with these arguments: its status, how many lines it prints and what it tells if that call fails, and if the next one fails too; the last line is that of a call that isn't made |
-//! | `$ explain ARGUMENTS`, `$ listing ARGUMENTS`, `$ prove ARGUMENTS`, `$ races ARGUMENTS`, `$ timeline ARGUMENTS` | likewise of these commands of `xinu_run` |
+//! | `$ explain ARGUMENTS`, `$ judge ARGUMENTS`, `$ listing ARGUMENTS`, `$ prove ARGUMENTS`, `$ races ARGUMENTS`, `$ timeline ARGUMENTS` | likewise of these commands of `xinu_run` |
 //! | `$ picture ARGUMENTS` | the events of the picture that `timeline` draws in place of the picture, and whether it is a file of the session |
 //! | `$ gdb ARGUMENTS` | what a debugger sends to `xinu_run gdb`, and below each line what is answered |
 //!

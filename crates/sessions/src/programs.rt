@@ -6,6 +6,7 @@ use crate::pictures::events_of;
 use explain_command::explain;
 use gdb_command::debug;
 use host_port::{Channel, Host, MemoryHost};
+use judge_command::judge;
 use listing_command::listing;
 use prove_command::prove;
 use races_command::{Silent, races};
@@ -29,6 +30,7 @@ pub(crate) fn run(
     let status = match command {
         "xinu" => run_xinu(alloc, args, host),
         "explain" => explain(alloc, args, host),
+        "judge" => judge(alloc, args, host),
         "listing" => listing(alloc, args, host),
         "prove" => prove(alloc, args, host),
         "races" => races(alloc, args, host, &mut Silent),

@@ -4,13 +4,14 @@
 //! |---|---|
 //! | `explain` | [`explain`] of `explain_command`: a run is told in plain English |
 //! | `timeline` | [`timeline`] of `timeline_command`: a run is drawn |
+//! | `judge` | [`judge`] of `judge_command`: the data races of a run are told |
 //! | `races` | [`races`] of `races_command`: a program is run with preemptions at every place |
 //! | `listing` | [`listing`] of `listing_command`: what each line of a source puts where |
 //! | `prove` | [`prove`] of `prove_command`: a program is proved to keep the rule of a lock on every schedule |
 //! | `gdb` | [`debug`] of `gdb_command`: a debugger's packets come on standard input, and are answered on standard output |
 //! | another, or none | the top call, [`xinu`] of `xinu_commands`, which gets all arguments |
 //!
-//! Each goes over the host of the program, and the first six get the arguments after their name.
+//! Each goes over the host of the program, and the first seven get the arguments after their name.
 #![tactic(auto)]
 
 mod progress;
@@ -21,6 +22,7 @@ use crate::terminals::{STANDARD_INPUT, is_terminal};
 use explain_command::explain;
 use gdb_command::debug;
 use host_port::{Host, RealHost};
+use judge_command::judge;
 use listing_command::listing;
 use prove_command::prove;
 use races_command::{Progress, races};
@@ -102,6 +104,7 @@ fn carry_out<H: Host, R: Read, W: Write, P: Progress>(
     match name {
         "explain" => explain(alloc, rest, host),
         "timeline" => timeline(alloc, rest, host),
+        "judge" => judge(alloc, rest, host),
         "races" => races(alloc, rest, host, progress),
         "listing" => listing(alloc, rest, host),
         "prove" => prove(alloc, rest, host),
