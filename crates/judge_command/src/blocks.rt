@@ -2,6 +2,7 @@
 
 use crate::calls::Asking;
 use std::alloc::{AllocError, Global};
+use xinu_base::Call;
 
 const GETMEM: u32 = 10;
 
@@ -67,8 +68,10 @@ impl Blocks {
         if answer == REFUSED {
             return Ok(());
         }
-        let [first, second, ..] = asking.call.args;
-        match asking.call.number {
+        let Call { number, args } = asking.call;
+        let first = args[0];
+        let second = args[1];
+        match number {
             GETMEM => self.get(event, asking, answer, rounded(first))?,
             GETSTK => {
                 let end = answer.saturating_add(4);

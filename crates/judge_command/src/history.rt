@@ -12,6 +12,8 @@ pub(crate) struct History {
     pub(crate) lives: Lives,
     pub(crate) calls: Calls,
     pub(crate) blocks: Blocks,
+    /// How many events were noted.
+    pub(crate) noted: u32,
 }
 
 impl History {
@@ -21,6 +23,7 @@ impl History {
             lives: Lives::new(alloc),
             calls: Calls::new(alloc),
             blocks: Blocks::new(alloc),
+            noted: 0,
         }
     }
 
@@ -34,6 +37,7 @@ impl History {
         event: u32,
         call: Option<Asking>,
     ) -> Result<(), AllocError> {
+        self.noted = self.noted.wrapping_add(1);
         self.lives.note(k, event)?;
         if let Some(asking) = call {
             let answer = k.harts[asking.process.index()].regs[10];

@@ -1,5 +1,7 @@
 //! The processes of a run: when each began and died, its name, and its stack.
 
+ghost use Rattle.std.specs.Prelude.{◌<◌};
+
 use kernel_state::KernelState;
 use printed_runs::{PROCESSES, Text};
 use std::alloc::{AllocError, Global};
@@ -85,7 +87,8 @@ impl Lives {
         requires below { number < 64 }
     {
         let lives = !matches!(process.state, State::Free);
-        match self.living[number] {
+        let known = self.living[number];
+        match known {
             None if lives => self.begin(number, process, event)?,
             Some(at) if !lives => self.end(number, at, event),
             _ => {}

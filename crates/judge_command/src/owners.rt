@@ -124,7 +124,8 @@ pub(crate) fn add_owner(
     history: &History,
     files: &[Vec<u8>],
 ) {
-    match owner.sort {
+    let sort = owner.sort;
+    match sort {
         Sort::Variable | Sort::Word => add_named(text, owner, byte, files),
         Sort::Stack(at) => add_stack(text, at, byte, history),
         Sort::Buffer(pool) => {
@@ -138,7 +139,8 @@ pub(crate) fn add_owner(
 /// The name that a program gives to a byte of an owner, and how far the byte is from where it begins: a variable, or of a word that is none the
 /// label of assembler before it.
 pub(crate) fn name_of<'a>(owner: &Owner, byte: u32, files: &'a [Vec<u8>]) -> Option<Place<'a>> {
-    match owner.sort {
+    let sort = owner.sort;
+    match sort {
         Sort::Variable => nearest_variable(files, byte),
         Sort::Word => {
             let place = nearest_function(files, byte)?;

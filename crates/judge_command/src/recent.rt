@@ -3,10 +3,10 @@
 /// How many are kept.
 const KEPT: usize = 64;
 
-/// A word of RAM, and two places that race for it.
+/// A byte, and two places that race for it.
 #[derive(Clone, Copy)]
 pub(crate) struct Spot {
-    pub(crate) word: u32,
+    pub(crate) byte: u32,
     /// The lower place.
     pub(crate) low: u32,
     /// The higher place.
@@ -16,7 +16,7 @@ pub(crate) struct Spot {
 impl Spot {
     // Whether it is the same as another one.
     fn is(&self, other: &Spot) -> bool {
-        self.word == other.word && self.low == other.low && self.high == other.high
+        self.byte == other.byte && self.low == other.low && self.high == other.high
     }
 }
 
@@ -34,6 +34,11 @@ impl Recent {
             spots: [None; KEPT],
             next: 0,
         }
+    }
+
+    /// Forgets them.
+    pub(crate) fn clear(&mut self) {
+        self.spots = [None; KEPT];
     }
 
     /// Whether a spot is among them.

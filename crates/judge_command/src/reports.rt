@@ -54,6 +54,8 @@ pub(crate) struct Reports<'a> {
     recent: Recent,
     // How many pairs of accesses were told.
     told: usize,
+    // How many events were noted that may change who owns a byte.
+    noted: u32,
 }
 
 impl<'a> Reports<'a> {
@@ -66,6 +68,7 @@ impl<'a> Reports<'a> {
             places: Vec::new(alloc),
             recent: Recent::new(),
             told: 0,
+            noted: 0,
         }
     }
 
@@ -82,11 +85,20 @@ impl<'a> Reports<'a> {
         if self.told < pairs.len() {
             let first = self.told;
             self.told = pairs.len();
+            self.forget(history);
             for pair in &pairs[first..] {
                 self.tell_pair(pair, history, replay)?;
             }
         }
         Ok(())
+    }
+
+    // Forgets what was told last if bytes may have other owners now.
+    fn forget(&mut self, history: &History) {
+        if self.noted != history.noted {
+            self.noted = history.noted;
+            self.recent.clear();
+        }
     }
 
     // Tells a pair of accesses, unless it is one of the last.
@@ -98,7 +110,7 @@ impl<'a> Reports<'a> {
     ) -> Result<(), AllocError> {
         let byte = (pair.byte % 4_294_967_296) as u32;
         let spot = Spot {
-            word: byte / 4,
+            byte,
             low: pair.first.place.min(pair.second.place),
             high: pair.first.place.max(pair.second.place),
         };
@@ -133,10 +145,12 @@ impl<'a> Reports<'a> {
             }
         }
         let at = self.reports.len();
+        let is_out = is_left_out(&self.asked, owner, byte, files);
+        let text = Text::new(self.alloc);
         self.reports.push(Report {
             owner: *owner,
-            is_out: is_left_out(&self.asked, owner, byte, files),
-            text: Text::new(self.alloc),
+            is_out,
+            text,
             further: 0,
         })?;
         Ok(at)
@@ -169,21 +183,13 @@ impl<'a> Reports<'a> {
         let pairs = self.asked.pairs;
         if let Some(report) = self.reports.get_mut(report) {
             if report.text.is_empty() {
-                report.text.put("Data race");
-                add_owner(
-                    &mut report.text,
-                    &report.owner,
-                    byte,
-                    history,
-                    replay.files(),
-                );
-                report.text.put(" at 0x");
-                report.text.hex_word(byte);
-                report.text.put(":\n");
-                add_both(&mut report.text, &report.owner, pair, byte, history, replay);
+                let owner = report.owner;
+                add_head(&mut report.text, &owner, byte, history, replay);
+                add_both(&mut report.text, &owner, pair, byte, history, replay);
             } else if pairs {
+                let owner = report.owner;
                 report.text.put("  and\n");
-                add_both(&mut report.text, &report.owner, pair, byte, history, replay);
+                add_both(&mut report.text, &owner, pair, byte, history, replay);
             } else {
                 report.further = report.further.saturating_add(1);
             }
@@ -266,6 +272,15 @@ fn push_count(text: &mut Vec<u8>, races: usize) -> Result<(), AllocError>
     text.extend_from_slice(b" data races")
 }
 
+// Adds the first line of a report: the owner, and the byte.
+fn add_head(text: &mut Text, owner: &Owner, byte: u32, history: &History, replay: &Replay) {
+    text.put("Data race");
+    add_owner(text, owner, byte, history, replay.files());
+    text.put(" at 0x");
+    text.hex_word(byte);
+    text.put(":\n");
+}
+
 // Adds how many pairs of places more there are.
 fn add_further(text: &mut Text, further: u64) {
     if further != 0 {
@@ -297,7 +312,8 @@ fn add_both(
 ) {
     add_access(text, &pair.first, byte, history, replay);
     add_access(text, &pair.second, byte, history, replay);
-    if let Sort::Stack(at) = owner.sort {
+    let sort = owner.sort;
+    if let Sort::Stack(at) = sort {
         add_visitor(text, &pair.first, at, history);
         add_visitor(text, &pair.second, at, history);
     }
