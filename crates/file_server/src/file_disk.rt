@@ -21,7 +21,7 @@ ghost use Rattle.xinu_model.specs.Files.Work.{FileWork, most_turns};
 use crate::settled::{Written, note_write, settle};
 use lfs_check::block_at;
 use lfs_layout::CleanImage;
-use local_files::{BlockWork, FileCall, Files, OpenFile};
+use local_files::{BlockWork, FileCall, Files};
 use std::alloc::{AllocError, Global};
 use std::marker::Model;
 use xinu_base::NoMemory;
@@ -155,7 +155,7 @@ impl FileDisk {
     }
 
     // What each device has open.
-    pub(crate) fn devices(&self) -> &[Option<OpenFile>; 6]
+    pub(crate) fn devices(&self) -> &[Option<local_files::OpenFile>; 6]
         ensures devices { map shown result.now ≡ self.now.system.devices }
     {
         &self.files.devices
