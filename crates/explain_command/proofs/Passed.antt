@@ -17,11 +17,15 @@ next_events : (old new : Replayed) → TakesNext old new → new.events ≡ old.
 next_events old new (inl (printed, t)) = ap (λ (r : Replayed). r.events) t.changes
 next_events old new (inr t) = ap (λ (r : Replayed). r.events) t.changes
 
+next_files : (old new : Replayed) → TakesNext old new → new.files ≡ old.files
+next_files old new (inl (printed, t)) = ap (λ (r : Replayed). r.files) t.changes
+next_files old new (inr t) = ap (λ (r : Replayed). r.files) t.changes
+
 -- what is noted of one state more
-noted_more : (events : List Event) (s : Xinu) (earlier : List Xinu)
-    → noted events (s ∷ earlier) ≡ note_event (slice_get events (length earlier)) (length earlier) s (noted events earlier)
+noted_more : (files : List (List ℕ)) (events : List Event) (s : Xinu) (earlier : List Xinu)
+    → noted files events (s ∷ earlier) ≡ note_event (slice_get events (length earlier)) (length earlier) s (noted files events earlier)
 unfolding noted
-noted_more events s earlier = refl
+noted_more files events s earlier = refl
 
 passed_more : (old mid new : Replayed) (states : List Xinu) → Passes old states mid → TakesNext mid new → Passes old (mid.state ∷ states) new
 unfolding Passes
@@ -31,13 +35,15 @@ pub noted_next : (old mid new : Replayed) (x : Noted) → HasNoted old mid x →
     → HasNoted old new (note_event (slice_get mid.events mid.taken) mid.taken mid.state x)
 noted_next old mid new x so takes =
     let events = next_events mid new takes in
+    let files = next_files mid new takes in
     record {
       states = mid.state ∷ so.states;
       passes = passed_more old mid new so.states so.passes takes;
       many = ap suc so.many ∙ sym (next_taken mid new takes);
       notes = ap (λ n. note_event (slice_get mid.events n) n mid.state x) (sym so.many)
           ∙ ap (λ y. note_event (slice_get mid.events (length so.states)) (length so.states) mid.state y) so.notes
-          ∙ sym (noted_more mid.events mid.state so.states) ∙ ap (λ l. noted l (mid.state ∷ so.states)) (sym events);
+          ∙ sym (noted_more mid.files mid.events mid.state so.states) ∙ ap (λ l. noted mid.files l (mid.state ∷ so.states)) (sym events)
+          ∙ ap (λ f. noted f new.events (mid.state ∷ so.states)) (sym files);
     }
 
 -- the same, of an event that is said to come next
@@ -55,6 +61,6 @@ taken_after old mid new printed none event =
     record { event = so.event; next = so.next; happens = so.happens; changes = so.changes }
 
 -- nothing is noted at the beginning
-pub noted_none : (r : Replayed) → r.taken ≡ 0 → HasNoted r r nothing_noted
+pub noted_none : (r : Replayed) → r.taken ≡ 0 → HasNoted r r (nothing_noted r.files)
 unfolding Passes noted
 noted_none r none = record { states = []; passes = refl; many = sym none; notes = refl }

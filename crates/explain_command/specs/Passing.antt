@@ -26,4 +26,4 @@ pub record HasNoted (old new : Replayed) (x : Noted) : Type 0 where
   pub states : List Xinu
   pub passes : Passes old states new
   pub many : length states ≡ new.taken
-  pub notes : x ≡ noted new.events states
+  pub notes : x ≡ noted new.files new.events states

@@ -35,7 +35,7 @@ pub(crate) fn tell(
     ensures tells { IfOk result (λ text. IsStory steps replay.old text.items) }
 {
     let mut telling = Telling::new(alloc)?;
-    let mut strays = Strays::new(alloc)?;
+    let mut strays = Strays::new(alloc, replay.files())?;
     tell_run(replay, &mut telling, &mut strays, steps)
 }
 
@@ -79,7 +79,7 @@ fn tell_run(
 ) -> Result<Vec<u8>, HostFault>
     requires begins { replay.old.taken ≡ 0 }
     requires goes_on { replay.old.over ≡ false }
-    requires none { strays.old ≡ nothing_noted }
+    requires none { strays.old ≡ nothing_noted replay.old.files }
     ensures strays { IfOk result (λ _. HasNoted replay.old replay.new strays.new) }
     ensures tells { IfOk result (λ text. IsStory steps replay.old text.items) }
 {
@@ -99,7 +99,7 @@ fn take_events(
 ) -> Result<End, HostFault>
     requires begins { replay.old.taken ≡ 0 }
     requires goes_on { replay.old.over ≡ false }
-    requires none { strays.old ≡ nothing_noted }
+    requires none { strays.old ≡ nothing_noted replay.old.files }
     ensures strays { IfOk result (λ _. HasNoted replay.old replay.new strays.new) }
     ensures inputs { IfOk result (λ _. HasInputs replay.old.disks replay.old.files replay.old.events replay.new) }
     ensures ended { IfOk result (λ end. HasEnded replay.new end) }

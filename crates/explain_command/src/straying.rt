@@ -31,18 +31,18 @@ pub(crate) fn add_strays(
         story.add_who(text, stray.owner.index());
         end(text, &stray, files);
     }
-    if let Some(stray) = new_in(strays.code(), taken) {
-        begin(text, &stray, story);
-        add_store(text, &stray);
-        text.put(", over an instruction");
-        end(text, &stray, files);
-    }
-    if let Some(stray) = new_in(strays.free(), taken) {
-        begin(text, &stray, story);
-        add_store(text, &stray);
-        text.put(", in memory that is free");
-        end(text, &stray, files);
-    }
+    let code = new_in(strays.code(), taken);
+    add_stored(text, code, ", over an instruction", story, files);
+    let free = new_in(strays.free(), taken);
+    add_stored(text, free, ", in memory that is free", story, files);
+    let null = new_in(strays.null(), taken);
+    add_stored(
+        text,
+        null,
+        ", through a null pointer or near it",
+        story,
+        files,
+    );
 }
 
 // The stray, if it is in the step after so many events.
@@ -52,6 +52,22 @@ fn new_in(stray: Option<Stray>, taken: u32) -> Option<Stray> {
         Some(stray)
     } else {
         None
+    }
+}
+
+// Adds the line of a store, and where it is, if there is one.
+fn add_stored(
+    text: &mut Text,
+    stray: Option<Stray>,
+    place: &str,
+    story: &Story,
+    files: &[Vec<u8>],
+) {
+    if let Some(stray) = stray {
+        begin(text, &stray, story);
+        add_store(text, &stray);
+        text.put(place);
+        end(text, &stray, files);
     }
 }
 

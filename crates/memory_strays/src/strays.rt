@@ -1,6 +1,6 @@
 //! The first stray of each kind in a run.
 
-ghost use Rattle.std.specs.Prelude.{◌≡◌, ◌/◌, IfOk, slice_index_or, slice_set, true, false};
+ghost use Rattle.std.specs.Prelude.{◌≡◌, ◌/◌, IfOk, map, slice_index_or, slice_set, true, false};
 ghost use Rattle.memory_strays.specs.Looks as looks;
 ghost use Rattle.memory_strays.specs.Strays as specs;
 ghost use Rattle.xinu_model.specs.Machine.{current_hart};
@@ -8,6 +8,7 @@ ghost use Rattle.xinu_model.specs.Sound.State.{IsSound};
 ghost use Rattle.xinu_model.specs.Tables.{process_at};
 
 use crate::looks::{Store, current_hart, executes, is_free, stack_low, stack_owner, store_in};
+use crate::near_null::{is_near_null, lie_near_null};
 use kernel_state::KernelState;
 use std::alloc::{AllocError, Global};
 use std::marker::Model;
@@ -33,14 +34,16 @@ pub struct Stray {
     pub owner: Pid,
 }
 
-/// The first stray of each kind so far, and over which words of RAM a step executed.
+/// The first stray of each kind so far, over which words of RAM a step executed, and whether no image lies near null.
 #[derive(Drop)]
 pub struct Strays {
     executed: Vec<bool>,
+    is_clear: bool,
     below: Option<Stray>,
     stack: Option<Stray>,
     code: Option<Stray>,
     free: Option<Stray>,
+    null: Option<Stray>,
 }
 
 impl Model for Strays {
@@ -48,25 +51,27 @@ impl Model for Strays {
 
     ghost Value = { Noted };
 
-    ghost view = { λ x. record { executed = x.executed.items; below = x.below; stack = x.stack; code = x.code; free = x.free } };
+    ghost view = { λ x. record { executed = x.executed.items; is_clear = x.is_clear; below = x.below; stack = x.stack; code = x.code; free = x.free; null = x.null } };
 }
 
 impl Strays {
-    /// Of no step.
+    /// Of no step of a run with the images in these files.
     ///
     /// # Errors
     /// Out of memory.
     #[tactic(auto, unfolding(crate::specs::Strays::nothing_noted))]
-    pub fn new(alloc: Global) -> Result<Strays, AllocError>
-        ensures none { IfOk result (λ x. x ≡ specs.nothing_noted) }
+    pub fn new(alloc: Global, files: &[Vec<u8>]) -> Result<Strays, AllocError>
+        ensures none { IfOk result (λ x. x ≡ specs.nothing_noted (map (λ v. v.items) files.now)) }
     {
         let executed = vec![in alloc; false; WORDS]?;
         Ok(Strays {
             executed,
+            is_clear: !lie_near_null(files),
             below: None,
             stack: None,
             code: None,
             free: None,
+            null: None,
         })
     }
 
@@ -98,6 +103,13 @@ impl Strays {
         self.free
     }
 
+    /// The first store near null where no image lies, if there is one.
+    pub fn null(&self) -> Option<Stray>
+        ensures null { result ≡ self.now.null }
+    {
+        self.null
+    }
+
     /// Notes the next step of a state to which so many events led, if it strays.
     pub fn note(&mut self, k: &KernelState, taken: u32)
         requires sound { IsSound k.now.call.state }
@@ -113,6 +125,7 @@ impl Strays {
         if self.free.is_none() {
             self.free = into_free(k, taken, store);
         }
+        self.null = first_of(self.null, self.into_null(k, taken, store));
         let place = current_hart(k).pc as usize / 4;
         if place < self.executed.len() {
             self.executed[place] = true;
@@ -126,6 +139,19 @@ impl Strays {
     {
         let Store { address, width } = store?;
         if self.was_executed(address / 4) {
+            Some(strayed(k, taken, address, width as u64, k.tables.current()))
+        } else {
+            None
+        }
+    }
+
+    // A store near null, unless an image lies there.
+    fn into_null(&self, k: &KernelState, taken: u32, store: Option<Store>) -> Option<Stray>
+        requires sound { IsSound k.now.call.state }
+        ensures null { result ≡ specs.into_null taken k.now.call.state self.now.is_clear store }
+    {
+        let Store { address, width } = store?;
+        if self.is_clear && is_near_null(address) {
             Some(strayed(k, taken, address, width as u64, k.tables.current()))
         } else {
             None
