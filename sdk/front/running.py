@@ -59,6 +59,7 @@ def why(words, programs, folder):
     """Tells the run in words, each address with its function, file and line."""
     inputs, _ = schedule_for(words, programs, folder)
     more = ["--steps", words.steps] if words.steps else []
+    more += ["--refused"] if words.refused else []
     for line in Places(programs).told(explained(inputs, more)):
         print(line)
     return 0

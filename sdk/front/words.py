@@ -111,6 +111,7 @@ def add_of_run(commands):
     parsers["run"].add_argument("--out0", metavar="FILE", help="write the raw disk at the end")
     parsers["run"].add_argument("--out1", metavar="FILE", help="write the disk with files at the end")
     parsers["why"].add_argument("--steps", type=steps, metavar="A..B", help="list the events from A to B first")
+    parsers["why"].add_argument("--refused", action="store_true", help="tell each call that is refused, not each kind once")
     parsers["term"].add_argument("--keep", metavar="FILE", help="keep the schedule in this file, not in PROGRAM.schedule")
     parsers["gdb"].add_argument("--ex", dest="gdb", action="append", default=[], metavar="COMMAND", help="let gdb carry out a command, and end")
     parsers["judge"].add_argument("--atomic", metavar="NAME,..", help="leave out these variables")

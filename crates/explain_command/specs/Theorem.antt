@@ -58,7 +58,7 @@ Carries (Ok t) ended old new = Obeys t ended old new ⊎ HasNoMemory ended old n
 
 -- the words of the command
 abbrev pub usage : List ℕ
-usage = codes "[--steps A..B | --trace FILE | --at N] --schedule FILE [--disk0 FILE] [--disk1 FILE] IMAGE .."
+usage = codes "[--steps A..B | --trace FILE | --at N] [--refused] --schedule FILE [--disk0 FILE] [--disk1 FILE] IMAGE .."
 
 -- The status is that with which the command ended, or that of the cause, which is told by its text and lines after it.
 abbrev pub Tells : Result ℕ Cause → ℕ → Outside → Outside → Type 0

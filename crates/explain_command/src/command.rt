@@ -23,7 +23,7 @@ use std::alloc::Global;
 
 /// The words of the command.
 const USAGE: &str =
-    "[--steps A..B | --trace FILE | --at N] --schedule FILE [--disk0 FILE] [--disk1 FILE] IMAGE ..";
+    "[--steps A..B | --trace FILE | --at N] [--refused] --schedule FILE [--disk0 FILE] [--disk1 FILE] IMAGE ..";
 
 /// Tells the run that the arguments after the program's name ask for: sends the text on Out, and answers the exit status.
 ///
@@ -120,7 +120,13 @@ fn told(alloc: Global, inputs: Inputs, words: &Taken<'_>) -> Result<Vec<u8>, Ref
     ensures untold { IfErr result (IsUntold inputs) }
 {
     match Replay::new(alloc, inputs) {
-        Ok(mut replay) => match text_of(alloc, &mut replay, told_at(words), steps_in(words)) {
+        Ok(mut replay) => match text_of(
+            alloc,
+            &mut replay,
+            told_at(words),
+            steps_in(words),
+            words.is_given("refused"),
+        ) {
             Ok(text) => Ok(text),
             Err(HostFault::Failed) => Err(Refusal::HostFault),
             Err(HostFault::NoMemory) => Err(Refusal::NoMemory),
@@ -135,6 +141,7 @@ fn text_of(
     replay: &mut Replay,
     at: Option<u32>,
     steps: Option<(u64, u64)>,
+    tells_each: bool,
 ) -> Result<Vec<u8>, HostFault>
     requires begins { replay.old.taken ≡ 0 }
     requires goes_on { replay.old.over ≡ false }
@@ -142,7 +149,7 @@ fn text_of(
 {
     match at {
         Some(events) => tell_at(alloc, replay, events),
-        None => tell(alloc, replay, steps),
+        None => tell(alloc, replay, steps, tells_each),
     }
 }
 

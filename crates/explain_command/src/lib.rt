@@ -1,6 +1,6 @@
 //! The command `explain`: a run is told in plain English.
 //!
-//! The arguments are those of `run` without what concerns its output, and `--steps A..B`, the events that are listed, or `--trace FILE`, a
+//! The arguments are those of `run` without what concerns its output, and `--refused`, each refused call in place of each kind once, `--steps A..B`, the events that are listed, or `--trace FILE`, a
 //! text that is compared in place of the story, or `--at N`, after how many events the state is told in place of it. What `run` refuses is refused with the same status and text, and another line says it in
 //! words. Else the run is taken through its events, and the text says how it ended, which traps there were and where,
 //! which processes are left and what they wait for, and what the console showed.

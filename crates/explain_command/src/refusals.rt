@@ -20,6 +20,8 @@ use std::alloc::{AllocError, Global};
 const ECALL: u32 = 0x73;
 /// The most kinds that are told.
 const MOST: usize = 20;
+/// The most calls that are told one by one.
+const MOST_CALLS: usize = 10_000;
 
 /// Refused calls of a kind: of one number, for one reason.
 #[derive(Clone, Copy)]
@@ -31,18 +33,20 @@ struct Kind {
     count: u64,
 }
 
-/// The kinds of refused calls so far.
+/// The kinds of refused calls so far; if each call is told, each is a kind of its own.
 #[derive(Drop)]
 pub(crate) struct Refusals {
     kinds: Vec<Kind>,
+    tells_each: bool,
     is_whole: bool,
 }
 
 impl Refusals {
     /// None so far.
-    pub(crate) fn new(alloc: Global) -> Refusals {
+    pub(crate) fn new(alloc: Global, tells_each: bool) -> Refusals {
         Refusals {
             kinds: Vec::new(alloc),
+            tells_each,
             is_whole: true,
         }
     }
@@ -81,7 +85,7 @@ impl Refusals {
                 }
             }
             None => {
-                if self.kinds.len() < MOST {
+                if self.kinds.len() < self.most() {
                     let kind = Kind {
                         reason,
                         first: *seen,
@@ -93,8 +97,16 @@ impl Refusals {
         }
     }
 
+    // The most kinds that are told.
+    fn most(&self) -> usize {
+        if self.tells_each { MOST_CALLS } else { MOST }
+    }
+
     // The place of a kind, if there was such a call.
     fn place_of(&self, reason: Reason, number: u32) -> Option<usize> {
+        if self.tells_each {
+            return None;
+        }
         for (i, kind) in self.kinds.iter().enumerate() {
             if kind.first.call.number == number && kind.reason.words() == reason.words() {
                 return Some(i);

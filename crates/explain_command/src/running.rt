@@ -21,7 +21,7 @@ use run_story::Story;
 use std::alloc::Global;
 use xinu_base::{End, Event};
 
-/// The text that tells a run from its first event on, after a list of some of them.
+/// The text that tells a run from its first event on, after a list of some of them, and each call that is refused, or each kind once.
 ///
 /// # Errors
 /// Out of memory.
@@ -29,12 +29,13 @@ pub(crate) fn tell(
     alloc: Global,
     replay: &mut Replay,
     steps: Option<(u64, u64)>,
+    tells_each: bool,
 ) -> Result<Vec<u8>, HostFault>
     requires begins { replay.old.taken ≡ 0 }
     requires goes_on { replay.old.over ≡ false }
     ensures tells { IfOk result (λ text. IsStory steps replay.old text.items) }
 {
-    let mut telling = Telling::new(alloc)?;
+    let mut telling = Telling::new(alloc, tells_each)?;
     let mut strays = Strays::new(alloc, replay.files())?;
     tell_run(replay, &mut telling, &mut strays, steps)
 }
@@ -47,7 +48,7 @@ pub(crate) fn tell_at(alloc: Global, replay: &mut Replay, events: u32) -> Result
     requires begins { replay.old.taken ≡ 0 }
     ensures tells { IfOk result (λ text. IsStateText events replay.old text.items) }
 {
-    let mut telling = Telling::new(alloc)?;
+    let mut telling = Telling::new(alloc, false)?;
     telling.story.begin(tables(replay)?.lines());
     take_until(replay, &mut telling, events)?;
     replay.runs();

@@ -42,16 +42,16 @@ pub(crate) struct Telling {
 }
 
 impl Telling {
-    /// Of no event.
+    /// Of no event. Each call that is refused is to be told, or each kind once.
     ///
     /// # Errors
     /// Out of memory.
-    pub(crate) fn new(alloc: Global) -> Result<Telling, AllocError> {
+    pub(crate) fn new(alloc: Global, tells_each: bool) -> Result<Telling, AllocError> {
         Ok(Telling {
             alloc,
             story: Story::new(alloc),
             strayed: Text::new(alloc),
-            refusals: Refusals::new(alloc),
+            refusals: Refusals::new(alloc, tells_each),
             loops: Loops::new(alloc)?,
             listing: Text::new(alloc),
             panicked: None,

@@ -205,11 +205,7 @@ impl<'a> Reports<'a> {
     {
         let races = self.count();
         let reports = self.text()?;
-        let told = if races == 0 {
-            ""
-        } else {
-            reports.as_str()
-        };
+        let told = if races == 0 { "" } else { reports.as_str() };
         let mut text = Vec::new(self.alloc);
         text.extend_from_slice(told.as_bytes())?;
         push_last(&mut text, races, events)?;
