@@ -3,7 +3,9 @@ pub mod Completions
 pub mod Exact
 pub mod Found
 pub mod Fronts
+pub mod Joined
 pub mod LinesRead
+pub mod Moments
 pub mod Steps
 pub mod Stops
 pub mod Whole

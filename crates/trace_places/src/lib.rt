@@ -5,10 +5,8 @@
 //!
 //! | Call | Promise |
 //! |---|---|
-//! | [`find_mistake`] | `finds`: the text is the transcript of a run, or goes wrong there (`IsMistake` of `specs/Places.antt`): the lines before that begin the transcript of a run, which goes on with the line that is due, or has ended; no run's transcript begins with more lines of the text; and the text isn't a transcript. `refuses`: as `boot_on` of the abstract machine says |
+//! | [`find_mistake`] | `finds`: the text is the transcript of a run, or goes wrong there (`IsMistake` of `specs/Places.antt`): the lines before that begin the transcript of a run, which goes on with the line that is due, or has ended; no run's transcript begins with more lines of the text; and the text isn't a transcript. The mistake says when the run prints that line: as it starts, in an event, of which it has the number and the process that is current ahead of it, or as it ends (`IsMoment` of `specs/Moments.antt`). `refuses`: as `boot_on` of the abstract machine says |
 //! | [`laws::mistakes_are_exact`] | the same of the place that the definition `mistake_of` gives of each text |
-//!
-//! [`Mistake::moment`] says in which event the run prints the line that is due. It is there to be shown: no clause speaks of it.
 #![tactic(auto)]
 
 mod finding;
@@ -18,5 +16,5 @@ mod reading;
 mod walk;
 
 pub use finding::find_mistake;
-pub use mistakes::{Mistake, Moment};
+pub use mistakes::{Mistake, Moment, When};
 pub use reference_check::NoStart;

@@ -13,6 +13,17 @@ pub struct Moment {
     pub process: Pid,
 }
 
+/// When a run prints a line.
+#[derive(Clone, Copy)]
+pub enum When {
+    /// As it starts, before its first event.
+    Start,
+    /// In an event.
+    In(Moment),
+    /// As it ends, after its last event.
+    End,
+}
+
 /// Where a text goes wrong.
 #[derive(Clone, Copy)]
 pub struct Mistake<'a> {
@@ -20,6 +31,6 @@ pub struct Mistake<'a> {
     pub left: &'a [u8],
     /// The line that a run prints there, after the lines of the text before it; none if the run has ended.
     pub due: Option<TranscriptLine>,
-    /// The event in which it prints that; none if it does so ahead of the first event or after the last.
-    pub moment: Option<Moment>,
+    /// When it prints that, or has ended.
+    pub when: When,
 }

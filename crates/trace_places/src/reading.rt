@@ -1,11 +1,12 @@
 //! Lines are read off the front of a text.
 
-ghost use Rattle.std.specs.Prelude.{[], ◌∷◌};
+ghost use Rattle.std.specs.Prelude.{◌≡◌, [], ◌∷◌, IfSome};
 ghost use Rattle.trace_places.specs.Places.{mistake_in, mistake_past};
 ghost use Rattle.trace_places.specs.Reading.{FoundAs, ReadSo};
+ghost use Rattle.trace_places.specs.declared.mistakes.When.TheVariants as when;
 ghost use Rattle.xinu_base.specs.declared.lines.TranscriptLine.TheVariants as line;
 
-use crate::mistakes::Mistake;
+use crate::mistakes::{Mistake, When};
 use reference_check::after_line;
 use xinu_base::{End, TranscriptLine};
 
@@ -36,13 +37,14 @@ pub(crate) fn read_lines<'a>(lines: &[TranscriptLine], text: &'a [u8]) -> Read<'
 /// The mistake in a text that should be the line of an end, if there is one.
 pub(crate) fn last_mistake(end: End, text: &[u8]) -> Option<Mistake<'_>>
     ensures finds { FoundAs (mistake_in (line.End end ∷ []) text.now mistake_past) result }
+    ensures end { IfSome result (λ m. m.when ≡ when.End) }
 {
     let last = TranscriptLine::End(end);
     match after_line(&last, text) {
         None => Some(Mistake {
             left: text,
             due: Some(last),
-            moment: None,
+            when: When::End,
         }),
         Some(rest) => {
             if rest.is_empty() {
@@ -51,7 +53,7 @@ pub(crate) fn last_mistake(end: End, text: &[u8]) -> Option<Mistake<'_>>
             Some(Mistake {
                 left: rest,
                 due: None,
-                moment: None,
+                when: When::End,
             })
         }
     }

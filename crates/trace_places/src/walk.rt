@@ -1,16 +1,19 @@
 //! A text is read along a run, one machine and one place in the text, up to a mistake.
 
-ghost use Rattle.std.specs.Prelude.{◌≡◌, ◌≤◌, IfOk, length};
+ghost use Rattle.std.specs.Prelude.{◌≡◌, ◌≤◌, ◌++◌, IfOk, IfSome, length};
 ghost use Rattle.reference_check.specs.Bounds.{IsWithin};
 ghost use Rattle.reference_state.specs.Answers.{IsStart};
+ghost use Rattle.trace_places.specs.Moments.{IsWhen};
 ghost use Rattle.trace_places.specs.Places as places;
 ghost use Rattle.trace_places.specs.Reading.{FoundAs, TookSo};
+ghost use Rattle.trace_places.specs.declared.mistakes.When.TheVariants as when;
 ghost use Rattle.transcript_laws.specs.Choices.{told};
 ghost use Rattle.transcript_laws.specs.Reading.{last_lines};
+ghost use Rattle.transcript_laws.specs.Transcripts.{first_text};
 ghost use Rattle.xinu_model.specs.Events.{effect_of};
 ghost use Rattle.xinu_model.specs.Runs as runs;
 
-use crate::mistakes::{Mistake, Moment};
+use crate::mistakes::{Mistake, Moment, When};
 use crate::reading::{Read, last_mistake, read_lines};
 use reference_check::{after_line, is_over, lines_of, take};
 use reference_state::Machine;
@@ -34,13 +37,14 @@ pub(crate) fn mistake_of<'a>(
     requires within { IsWithin 0 machine.old.state }
     requires most { length schedule.old ≤ 1000000000 }
     ensures finds { IfOk result (λ r. FoundAs (places.mistake_of machine.old.state schedule.old text.now) r) }
+    ensures when { IfOk result (λ r. IfSome r (λ m. IsWhen machine.old.state schedule.old text.now m.left.now m.due m.when)) }
 {
     let first = TranscriptLine::Switch(machine.current());
     match after_line(&first, text) {
         None => Ok(Some(Mistake {
             left: text,
             due: Some(first),
-            moment: None,
+            when: When::Start,
         })),
         Some(rest) => mistake_from(machine, schedule, rest),
     }
@@ -56,6 +60,7 @@ fn mistake_from<'a>(
     requires within { IsWithin 0 machine.old.state }
     requires most { length schedule.old ≤ 1000000000 }
     ensures finds { IfOk result (λ r. FoundAs (places.mistake_from machine.old.state schedule.old text.now) r) }
+    ensures when { IfOk result (λ r. IfSome r (λ m. IsWhen machine.old.state schedule.old (first_text machine.old.state ++ text.now) m.left.now m.due m.when)) }
 {
     let mut rest = text;
     let mut number = 0u64;
@@ -74,7 +79,7 @@ fn mistake_from<'a>(
             return Ok(Some(Mistake {
                 left: rest,
                 due: Some(due),
-                moment: Some(moment),
+                when: When::In(moment),
             }));
         }
         if let Some(end) = taken.end {
@@ -127,6 +132,7 @@ fn mistake_at_end<'a>(
 ) -> Result<Option<Mistake<'a>>, NoMemory>
     requires within { IsWithin 1000000001 machine.now.state }
     ensures finds { IfOk result (λ r. FoundAs (places.mistake_in (last_lines machine.now.state end) text.now places.mistake_past) r) }
+    ensures end { IfOk result (λ r. IfSome r (λ m. m.when ≡ when.End)) }
 {
     let tables = lines_of(machine)?;
     let Read { rest, due } = read_lines(&tables, text);
@@ -135,7 +141,7 @@ fn mistake_at_end<'a>(
         Some(due) => Ok(Some(Mistake {
             left: rest,
             due: Some(due),
-            moment: None,
+            when: When::End,
         })),
     }
 }

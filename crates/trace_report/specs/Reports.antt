@@ -4,7 +4,8 @@ use Rattle.std.specs.Fmt.{decimal}
 use Rattle.std.specs.List.{count_by, position}
 use Rattle.std.specs.Option.{unwrap_or}
 use Rattle.trace_places.specs.declared.mistakes.Mistake.{Mistake}
-use Rattle.trace_places.specs.declared.mistakes.Moment.{Moment}
+use Rattle.trace_places.specs.declared.mistakes.When.{When}
+use Rattle.trace_places.specs.declared.mistakes.When.TheVariants as when
 use Rattle.trace_report.specs.EventNames.{event_name}
 use Rattle.xinu_base.specs.declared.events.Event.{Event}
 use Rattle.xinu_base.specs.declared.events.Event.TheVariants.{Step}
@@ -56,25 +57,25 @@ unfoldable pub happening_text : Event → ℕ → List ℕ
 happening_text Step p = numbered (codes ", a step of process ") p
 happening_text event p = codes ", " ++ event_name event
 
--- when a run prints a line, by the number of that line if it isn't in an event
-unfoldable pub moment_text : ℕ → Option Moment → List ℕ
-moment_text number None = if number == 1 then codes " (before the first event)" else codes " (after the last event)"
-moment_text number (Some m) = numbered (codes " (event ") m.number ++ happening_text m.event m.process ++ codes ")"
+-- when a run prints a line
+unfoldable pub when_text : When → List ℕ
+when_text when.Start = codes " (before the first event)"
+when_text (when.In m) = numbered (codes " (event ") m.number ++ happening_text m.event m.process ++ codes ")"
+when_text when.End = codes " (after the last event)"
 
 -- a line that is due, and when a run prints it
-unfoldable pub due_line : ℕ → List ℕ → Option Moment → List ℕ
-due_line number line moment = codes "; a run has " ++ quoted line ++ moment_text number moment
+unfoldable pub due_line : List ℕ → When → List ℕ
+due_line line w = codes "; a run has " ++ quoted line ++ when_text w
 
 -- what a run has there: the line that is due, or nothing since it has ended
-unfoldable pub due_text : ℕ → Option TranscriptLine → Option Moment → List ℕ
-due_text number None moment = codes "; the run has ended"
-due_text number (Some line) moment = due_line number (line_text line) moment
+unfoldable pub due_text : Option TranscriptLine → When → List ℕ
+due_text None w = codes "; the run has ended"
+due_text (Some line) w = due_line (line_text line) w
 
 -- the line that tells where a text goes wrong
 abbrev pub mistake_line : List ℕ → Mistake → List ℕ
 mistake_line text m =
-    let number = line_number text m.left.now in
-    numbered (codes "line ") number ++ codes ": the text " ++ found_text m.left.now ++ due_text number m.due m.moment ++ codes "\n"
+    numbered (codes "line ") (line_number text m.left.now) ++ codes ": the text " ++ found_text m.left.now ++ due_text m.due m.when ++ codes "\n"
 
 -- what is told of a text by what was found of it
 abbrev pub report : List ℕ → Option Mistake → List ℕ

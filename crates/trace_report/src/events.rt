@@ -6,7 +6,7 @@ ghost use Rattle.trace_report.specs.Reports as spec;
 
 use crate::quotes::push_numbered;
 use std::alloc::AllocError;
-use trace_places::Moment;
+use trace_places::When;
 use xinu_base::{Event, Pid};
 
 /// The name of an event, as a schedule has it.
@@ -27,26 +27,19 @@ pub fn event_name(event: Event) -> &'static str
     }
 }
 
-/// Appends when a run prints a line, which has this number if that isn't in an event.
-#[tactic(auto, unfolding(crate::specs::Reports::moment_text))]
-pub(crate) fn push_moment(
-    text: &mut Vec<u8>,
-    number: u64,
-    moment: &Option<Moment>,
-) -> Result<(), AllocError>
-    ensures moment { OnOk result (text.new.items ≡ text.old.items ++ spec.moment_text number moment.now) }
+/// Appends when a run prints a line.
+#[tactic(auto, unfolding(crate::specs::Reports::when_text))]
+pub(crate) fn push_when(text: &mut Vec<u8>, when: &When) -> Result<(), AllocError>
+    ensures when { OnOk result (text.new.items ≡ text.old.items ++ spec.when_text when.now) }
 {
-    match moment {
-        None => text.extend_from_slice(if number == 1 {
-            b" (before the first event)"
-        } else {
-            b" (after the last event)"
-        }),
-        Some(moment) => {
+    match when {
+        When::Start => text.extend_from_slice(b" (before the first event)"),
+        When::In(moment) => {
             push_numbered(text, " (event ", moment.number)?;
             push_happening(text, moment.event, moment.process)?;
             text.extend_from_slice(b")")
         }
+        When::End => text.extend_from_slice(b" (after the last event)"),
     }
 }
 

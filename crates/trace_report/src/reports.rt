@@ -3,10 +3,10 @@
 ghost use Rattle.std.specs.Prelude.{◌≡◌, ◌≤◌, ◌++◌, OnOk, IfOk, length};
 ghost use Rattle.trace_report.specs.Reports as spec;
 
-use crate::events::push_moment;
+use crate::events::push_when;
 use crate::quotes::{push_found, push_numbered, push_quoted};
 use std::alloc::{AllocError, Global};
-use trace_places::{Mistake, Moment};
+use trace_places::{Mistake, When};
 use transcript::render;
 use xinu_base::TranscriptLine;
 
@@ -35,11 +35,10 @@ fn push_mistake(told: &mut Vec<u8>, text: &[u8], mistake: &Mistake<'_>) -> Resul
     requires few { length text.now ≤ 67108864 }
     ensures mistake { OnOk result (told.new.items ≡ told.old.items ++ spec.mistake_line text.now mistake.now) }
 {
-    let number = line_number(text, mistake.left);
-    push_numbered(told, "line ", number)?;
+    push_numbered(told, "line ", line_number(text, mistake.left))?;
     told.extend_from_slice(b": the text ")?;
     push_found(told, mistake.left)?;
-    push_due(told, number, &mistake.due, &mistake.moment)?;
+    push_due(told, &mistake.due, &mistake.when)?;
     told.extend_from_slice(b"\n")
 }
 
@@ -62,31 +61,21 @@ fn line_feeds(bytes: &[u8]) -> usize
 
 // Appends what a run has there, and when.
 #[tactic(auto, unfolding(crate::specs::Reports::due_text))]
-fn push_due(
-    told: &mut Vec<u8>,
-    number: u64,
-    due: &Option<TranscriptLine>,
-    moment: &Option<Moment>,
-) -> Result<(), AllocError>
-    ensures due { OnOk result (told.new.items ≡ told.old.items ++ spec.due_text number due.now moment.now) }
+fn push_due(told: &mut Vec<u8>, due: &Option<TranscriptLine>, when: &When) -> Result<(), AllocError>
+    ensures due { OnOk result (told.new.items ≡ told.old.items ++ spec.due_text due.now when.now) }
 {
     match due {
         None => told.extend_from_slice(b"; the run has ended"),
-        Some(line) => push_due_line(told, number, render(line).bytes(), moment),
+        Some(line) => push_due_line(told, render(line).bytes(), when),
     }
 }
 
 // Appends a line that is due, and when a run prints it.
 #[tactic(auto, unfolding(crate::specs::Reports::due_line))]
-fn push_due_line(
-    told: &mut Vec<u8>,
-    number: u64,
-    line: &[u8],
-    moment: &Option<Moment>,
-) -> Result<(), AllocError>
-    ensures line { OnOk result (told.new.items ≡ told.old.items ++ spec.due_line number line.now moment.now) }
+fn push_due_line(told: &mut Vec<u8>, line: &[u8], when: &When) -> Result<(), AllocError>
+    ensures line { OnOk result (told.new.items ≡ told.old.items ++ spec.due_line line.now when.now) }
 {
     told.extend_from_slice(b"; a run has ")?;
     push_quoted(told, line)?;
-    push_moment(told, number, moment)
+    push_when(told, when)
 }

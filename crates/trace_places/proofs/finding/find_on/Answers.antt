@@ -27,3 +27,4 @@ returns-in-Ok-mistake_of-clause-finds c =
     let starts : StartsSo disks images c.in-Ok.machine.state =
     record { few = omega (arith, n, few); disks_sound = c.requires.sound; boots = c.in-Ok.ensures.boots } in
     finds disks images c.args.schedule.now c.in-Ok.machine.state c.args.text.now c.in-Ok-mistake_of.found starts c.in-Ok-mistake_of.ensures.finds
+    c.in-Ok-mistake_of.ensures.when

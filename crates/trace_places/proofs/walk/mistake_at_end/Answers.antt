@@ -1,4 +1,4 @@
-use Rattle.std.proofs.Common.{◌∙◌}
+use Rattle.std.proofs.Common.{◌∙◌, refl}
 use Rattle.xinu_base.specs.declared.lines.TranscriptLine.TheVariants.{End}
 use Rattle.xinu_model.specs.Text.{tables_of}
 use Rattle.transcript_laws.specs.Reading.{last_lines}
@@ -15,6 +15,7 @@ returns-in-None c =
       finds = found_same (mistake_in (last_lines s c.args.end) c.args.text.now mistake_past) _ c.last_mistake.result
           (tables_read (tables_of s) c.deref.result.now (End c.args.end) c.args.text.now r.rest.now mistake_past r.due all c.in-None.is c.read_lines-due.ensures.reads)
           c.last_mistake.ensures.finds;
+      end = c.last_mistake.ensures.end;
     }
 
 pub returns : goal.returns
@@ -25,4 +26,5 @@ returns c =
     record {
       finds = tables_wrong (tables_of s) c.deref.result.now c.in-Some.due (End c.args.end) c.args.text.now r.rest.now mistake_past r.due all c.in-Some.is
           c.read_lines-due.ensures.reads;
+      end = refl;
     }

@@ -5,5 +5,5 @@ use Rattle.trace_report.proofs.reports.push_due_line.Goals as goal
 pub returns : goal.returns
 unfolding due_line
 returns c = record {
-  line = three_parts _ _ _ _ _ _ _ _ c.in_ok-extend_from_slice.ensures.items c.in_ok-push_quoted.ensures.quoted c.push_moment.ensures.moment;
+  line = three_parts _ _ _ _ _ _ _ _ c.in_ok-extend_from_slice.ensures.items c.in_ok-push_quoted.ensures.quoted c.push_when.ensures.when;
 }
