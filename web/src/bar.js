@@ -4,12 +4,14 @@ import { current_at, lines_at } from "./history.js";
 import { page } from "./page.js";
 import { colour_of } from "./processes.js";
 import { run_at } from "./schedules.js";
-import { decimal } from "./text.js";
+import { decimal, last_at_most } from "./text.js";
 import { name_of } from "./told.js";
 
 // kinds of marks, the most telling first, with their variables of style.css
 const MARKS = [["trap or failed disk", "--red"], ["a refused call", "--amber"], ["a call or an answer", "--blue"],
 	["a byte sent or typed", "--green"], ["a tick", "--soft"]];
+// the mark of accesses that race (judge.js), which goes over both rows
+const RACING = ["an access that races", "--race"];
 // the height of the row of those who run, of the gap, and of the marks; the slider's knob leaves so much at both ends
 const RUNS = 8, GAP = 3, MARK = 15, INSET = 8;
 // how many processes the legend names
@@ -55,15 +57,19 @@ export function draw_bar(list) {
 		pen.fillStyle = colour(MARKS[kind][1]);
 		pen.fillRect(x(i) - .75, RUNS + GAP, 1.5, MARK);
 	}
-	lay_legend(all, new Set(marks.map(([kind]) => kind)));
+	const racing = [...page.ran.racing || []].filter((n) => list[0] <= n && n <= list.at(-1));
+	pen.fillStyle = colour(RACING[1]);
+	for (const n of racing) pen.fillRect(x(last_at_most(list, n)) - 1, 0, 2, RUNS + GAP + MARK);
+	lay_legend(all, new Set(marks.map(([kind]) => kind)), racing.length > 0);
 }
-function lay_legend(all, kinds) {
+function lay_legend(all, kinds, is_racing) {
 	const began = new Map();
 	for (const { process, event } of all) if (!began.has(process)) began.set(process, event);
 	const item = (name, kind, style = "") => make("li", {}, make("span", { class: `swatch ${kind}`, style }), name);
 	const runs = [...began].sort((a, b) => a[0] - b[0]).slice(0, MOST_PROCESSES)
 		.map(([process, event]) => item(`${name_of(page.ran, event, process)} runs`, colour_of(process)));
-	const marks = MARKS.flatMap(([name, variable], kind) => (kinds.has(kind) ? [item(name, "mark", `background:var(${variable})`)] : []));
+	const shown = [...(is_racing ? [RACING] : []), ...MARKS.filter((_, kind) => kinds.has(kind))];
+	const marks = shown.map(([name, variable]) => item(name, "mark", `background:var(${variable})`));
 	const { first, last, count } = page.ran;
 	const part = last - first < count ? [make("li", {}, `events ${decimal(first)} to ${decimal(last)} of ${decimal(count)}`)] : [];
 	$("legend").replaceChildren(...part, ...runs, ...marks);

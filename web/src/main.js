@@ -57,7 +57,7 @@ function lay_exercises() {
 // What the page is, and what may be believed of it.
 const CLAIMS = [
 	"The transcript, and so each table of a state, is what docs/THEOREM.md of the repository says of the program's output; registers and data"
-		+ " are answers to gdb (docs/DEBUGGING.md). Story, Picture, Races and Proof are the output of commands. That Step shows what it was given,"
+		+ " are answers to gdb (docs/DEBUGGING.md). Story, Picture, Races, Data races and Proof are the output of commands. That Step shows what it was given,"
 		+ " and its words for calls, is tested and not proved.",
 	"Trusted besides what the program trusts: clang's back end for WebAssembly, wasm-ld and wasm-opt; the lines of the module that name the"
 		+ " processor, which were changed; host.c and the page's own script; the browser.",
@@ -102,7 +102,7 @@ function lay_controls() {
 		if (tab) view(tab.id.slice("tab-".length));
 		if (tab?.id === "tab-proof") fill_claim();
 	});
-	for (const id of ["story", "transcript"]) $(id).addEventListener("click", take_click);
+	for (const id of ["story", "transcript", "reports"]) $(id).addEventListener("click", take_click);
 	for (const id of ["views", "files"]) keys_of_tabs($(id));
 	document.addEventListener("keydown", take_key);
 	addEventListener("resize", redraw);

@@ -4,6 +4,7 @@ import { $, say } from "./dom.js";
 import { Stopped, is_busy, stop } from "./engine.js";
 import { page } from "./page.js";
 import { lay_made, show_fault } from "./panels.js";
+import { forget_reports, judge } from "./judge.js";
 import { draw } from "./picture.js";
 import { keep } from "./links.js";
 import { Refused, run_of } from "./runs.js";
@@ -43,6 +44,7 @@ async function run_now(mine, to) {
 	Object.assign(page, { ran, chosen: null, picture: null, list: null });
 	$("view-step").classList.remove("stale");
 	$("picture").replaceChildren();
+	forget_reports();
 	$("from").value = 1;
 	lay_made();
 	tell_story();
@@ -56,6 +58,7 @@ async function run_now(mine, to) {
 	go(where);
 	say(`${count(ran.count, "event")}, ${Math.round(ran.ms)} ms`);
 	if (page.view === "picture") draw();
+	if (page.view === "judge") await judge();
 	if (page.base !== null) await load_beside(mine);
 }
 export function stop_all() {

@@ -8,7 +8,7 @@ import { count, lines_of } from "./text.js";
 const MOST = 3000, LAST = 100;
 
 // A link to an event.
-const link = (n, text) => make("a", { href: `#event-${n}`, title: `to event ${n}`, "data-event": n }, text);
+export const event_link = (n, text) => make("a", { href: `#event-${n}`, title: `to event ${n}`, "data-event": n }, text);
 export function take_click(click) {
 	const of = click.target.closest("[data-event]");
 	if (!of) return;
@@ -21,7 +21,7 @@ function with_links(text) {
 	const nodes = [];
 	let from = 0;
 	for (const found of text.matchAll(/\bevent (\d+)/g)) {
-		const shown = link(Number(found[1]), found[0]);
+		const shown = event_link(Number(found[1]), found[0]);
 		shown.className = "event";
 		nodes.push(text.slice(from, found.index), shown);
 		from = found.index + found[0].length;
@@ -37,7 +37,7 @@ export function tell_transcript() {
 		of_events = keys.map((key) => ran.states.lines[key].join("\n") + "\n");
 	const told = of_events.join("");
 	// a schedule's own `dump` prints tables between
-	if (keys.length && text.startsWith(told)) $("transcript").replaceChildren(...keys.map((key, i) => link(key, of_events[i])),
+	if (keys.length && text.startsWith(told)) $("transcript").replaceChildren(...keys.map((key, i) => event_link(key, of_events[i])),
 		text.slice(told.length));
 	else $("transcript").textContent = is_long ? [...lines.slice(0, MOST - LAST), "..", ...lines.slice(-LAST)].join("\n") : text;
 	const said = is_long ? `; the first ${MOST - LAST} and the last ${LAST} are shown` : keys.length ? "; a click on one goes to its event" : "";

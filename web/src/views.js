@@ -5,6 +5,7 @@ import { draw, mark_picture } from "./picture.js";
 import { go, redraw } from "./stepper.js";
 import { mark_transcript } from "./transcripts.js";
 import { mark_beside } from "./beside.js";
+import { judge } from "./judge.js";
 
 export function view(name) {
 	page.view = name;
@@ -16,6 +17,7 @@ export function view(name) {
 		else draw();
 	}
 	if (name === "transcript") mark_transcript();
+	if (name === "judge") judge();
 	if (name === "beside") mark_beside();
 }
 // Goes to an event in the stepper.

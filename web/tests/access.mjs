@@ -3,7 +3,7 @@ import { sleep } from "./browser.mjs";
 import { READY, open_exercise } from "./exercises.mjs";
 
 const AT = "xinu_page.page.at", SHIFT = 8, CTRL = 2;
-const VIEWS = ["step", "story", "picture", "transcript", "races", "proof"];
+const VIEWS = ["step", "story", "picture", "transcript", "races", "judge", "proof"];
 const CONTROLS = ["button", "textbox", "combobox", "slider", "tab", "spinbutton", "link", "searchbox"];
 
 async function keys(b, check) {

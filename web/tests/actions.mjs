@@ -115,6 +115,27 @@ async function races(b, check) {
 	check(await b.ev("xinu_page.page.ran.transcript.includes('con 32')"), "and back to the schedule before");
 	await press(b, "tab-step");
 }
+async function judging(b, check) {
+	await open(b, "lost_update");
+	await press(b, "tab-judge");
+	await b.until("document.querySelectorAll('#reports tbody tr').length === 2");
+	const told = await b.ev(inner("reports"));
+	check(/^1 data race in \d+ events\./.test(told) && /word, at 0x/.test(told) && /sw\s+t0, 0\(s0\)/.test(told), "the data race is told with its label and lines",
+		() => told);
+	const event = await b.ev("Number(document.querySelector('#reports [data-event]').dataset.event)");
+	await b.ev("document.querySelector('#reports [data-event]').click()");
+	await b.until(READY);
+	check(await b.ev("xinu_page.page.view") === "step" && await b.ev(AT) === event, `its first access is stepped to: event ${event}`);
+	check(/an access that races/.test(await b.ev(inner("legend"))), "the bar marks it");
+	await b.ev("(() => { const one = document.querySelector('#schedule textarea'); one.value = 'step 20\\n'; one.dispatchEvent(new Event('input')); })()");
+	await press(b, "run");
+	await b.until(`${READY} && ${COUNT} === 20`);
+	check(await b.ev("document.getElementById('reports').childElementCount") === 0, "another run isn't judged yet");
+	await press(b, "tab-judge");
+	await b.until("/^No data race in 20 events/.test(document.getElementById('reports').innerText)");
+	check(true, "a part of the run has none");
+	await press(b, "tab-step");
+}
 async function proofs(b, check) {
 	await open(b, "every_schedule");
 	await press(b, "tab-proof");
@@ -225,7 +246,7 @@ async function stopping(b, check) {
 	check(at > 3, `Play goes on: to event ${at}`);
 }
 export async function actions(b, check, url) {
-	for (const part of [typing, schedule, races, proofs, pictures, uploads, lines_of_c, stopping]) await part(b, check);
+	for (const part of [typing, schedule, races, judging, proofs, pictures, uploads, lines_of_c, stopping]) await part(b, check);
 	await links(b, check, url);
 	await written_links(b, check, url);
 }

@@ -36,6 +36,7 @@ function of_exercise({ name, programs, schedule, races = [1, 20] }) {
 	both(name, ["check", "--trace", "trace", ...args], { ...files, trace: transcript.slice(0, -1) });
 	both(name, ["explain", "--trace", "trace", ...args], { ...files, trace: transcript.slice(0, -9) });
 	both(name, ["races", "--preemptions", String(races[0]), "--within", String(races[1]), "--found", "found", ...args], files);
+	both(name, ["judge", "--pairs", ...args], files);
 	both(name, ["gdb", ...args], files, questions([0, 3, 1, 9].map((event) => ({ event, processes: [1, 2] })), [{ at: 0, size: 16 }]));
 }
 // Disks, refusals, and texts that are long.

@@ -28,7 +28,7 @@ function packet(text) {
 	const sum = Array.from(text).reduce((all, letter) => all + letter.charCodeAt(0), 0) & 255;
 	return `$${text}#${sum.toString(16).padStart(2, "0")}`;
 }
-// The tables that native gdb prints after each of these events.
+// The tables that native gdb prints after each of these events, without the names as texts that it puts after those in digits.
 function native_tables({ files, args }, events) {
 	const asked = events.map((event) => packet(`qRcmd,${hex_of(`goto ${event}`)}`) + packet(`qRcmd,${hex_of("tables")}`)).join("");
 	const answer = native(["gdb", ...args], files, `${packet("QStartNoAckMode")}+${asked}${packet("D")}`).out.toString();
@@ -37,7 +37,7 @@ function native_tables({ files, args }, events) {
 	for (const [, reply] of answer.matchAll(/\$([^#]*)#../g)) {
 		if (/^O([0-9a-f]{2})+$/.test(reply)) text += Buffer.from(reply.slice(1), "hex").toString("latin1");
 		else if (reply === "OK") {
-			if (text.includes("now ")) texts.push(text.slice(text.indexOf("now ")).trimEnd());
+			if (text.includes("now ")) texts.push(text.slice(text.indexOf("now ")).replace(/^(proc .*?) ".*"$/gm, "$1").trimEnd());
 			text = "";
 		}
 	}
