@@ -2,12 +2,14 @@
 """Judges random programs by a second detector of data races, and compares what it tells with `xinu_run judge`.
 
 usage: bench/detector.py [--programs N] [--schedules N] [--first N] [--rules] [--keep FOLDER]
+       bench/detector.py --placed K
 
-Each program (races/programs.py) is run on random schedules by a second machine of the kernel (races/calls.py), whose transcript has to be that
+Each program (races/programs.py) is run on random schedules by a second machine of the kernel (races/), whose transcript has to be that
 of `xinu_run run`. Its history is judged by the definition: edges by the rules, reachability over all of them, all pairs of accesses
 (races/history.py). What `xinu_run judge --pairs` prints has to be the same reports, pairs of places and first accesses. --rules counts,
 too, in how many runs the second detector would tell something else without each rule. --keep writes the program and the schedule of each
-disagreement there. The last line counts; the status is 1 if there was a disagreement. No part of the gate."""
+disagreement there. The last line counts; the status is 1 if there was a disagreement. No part of the gate. --placed prints schedule K of the
+session judge, and runs nothing."""
 import argparse
 import collections
 import os
@@ -17,9 +19,9 @@ import tempfile
 
 sys.dont_write_bytecode = True
 from program import built
-from races.calls import Machine
+from races.disk import Machine
 from races.history import RULES, races
-from races.programs import program, schedule
+from races.programs import disk, placed, program, schedule
 from races.told import compare
 
 
@@ -31,20 +33,25 @@ def run(words, statuses=(0,)):
     return ran.stdout.decode("latin-1")
 
 
+def text_of(rows):
+    """A schedule as a text."""
+    return "".join("fail0\n" if kind == "fail0" else f"{kind} {count}\n" for kind, count in rows)
+
+
 def ran_by_second(image, rows):
     """The second machine after these events."""
-    machine = Machine(image)
+    machine = Machine(image, disk())
     for kind, count in rows:
-        for _ in range(count):
+        for byte in [int(word, 16) for word in count.split()] if kind == "type" else [0] * count:
             if machine.is_over():
                 return machine
-            machine.event(kind)
+            machine.event(kind, byte)
     return machine
 
 
-def transcript(xinu, schedule_file, image_file):
+def transcript(xinu, words):
     """The lines of a run's transcript before its tables."""
-    lines = run([xinu, "run", "--schedule", schedule_file, image_file]).splitlines()
+    lines = run([xinu, "run", *words]).splitlines()
     return lines[: next(k for k, line in enumerate(lines) if line.startswith("now "))]
 
 
@@ -71,17 +78,20 @@ class Counts:
 
 def judged(xinu, folder, rows, is_by_rules, counts):
     """What is different in a run of the image in a folder; none if nothing is."""
-    schedule_file, image_file = (os.path.join(folder, name) for name in ("schedule.txt", "program.xim"))
+    schedule_file, image_file, disk_file = (os.path.join(folder, name) for name in ("schedule.txt", "program.xim", "disk.img"))
+    inputs = ["--schedule", schedule_file, "--disk0", disk_file, image_file]
+    with open(disk_file, "wb") as file:
+        file.write(disk())
     with open(schedule_file, "w", encoding="ascii") as file:
-        file.writelines(f"{kind} {count}\n" for kind, count in rows)
+        file.write(text_of(rows))
     with open(image_file, "rb") as file:
         machine = ran_by_second(file.read(), rows)
-    lines = transcript(xinu, schedule_file, image_file)
+    lines = transcript(xinu, inputs)
     if machine.lines != lines:
         at = next((k for k, (x, y) in enumerate(zip(machine.lines, lines)) if x != y), min(len(machine.lines), len(lines)))
         return [f"the transcripts differ at line {at + 1}: {lines[at : at + 2]}, the second machine's {machine.lines[at : at + 2]}"]
     found, told = races(machine.moments)
-    text = run([xinu, "judge", "--pairs", "--schedule", schedule_file, image_file], (0, 15))
+    text = run([xinu, "judge", "--pairs", *inputs], (0, 15))
     counts.add(machine, found, told, text)
     if is_by_rules:
         counts.add_rules(machine, told)
@@ -95,7 +105,11 @@ def main():
     parser.add_argument("--first", type=int, default=1)
     parser.add_argument("--rules", action="store_true")
     parser.add_argument("--keep")
+    parser.add_argument("--placed", type=int)
     words = parser.parse_args()
+    if words.placed is not None:
+        sys.stdout.write(text_of(placed(words.placed)))
+        return
     xinu, counts = built("xinu_run"), Counts()
     with tempfile.TemporaryDirectory() as folder:
         source = os.path.join(folder, "program.s")

@@ -1,12 +1,12 @@
-"""The calls of the second machine (machine.py), by docs/CALLS.md: all of 1 to 35 but `getstk`, `freestk`, `sleep` and `clktime`, and `write` and
-`putc` of the console as long as it has room."""
+"""The calls of the second machine (machine.py), by docs/CALLS.md: all of 1 to 35 but `sleep` and `clktime`. Those of the console are in
+console.py."""
 from races.machine import ARGUMENTS, REFUSED, Core
 from second import RAM, signed
 
 NAMES = {1: "getpid", 2: "create", 3: "resume", 4: "suspend", 5: "kill", 6: "yield", 7: "chprio", 8: "getprio", 9: "exit", 10: "getmem",
-         11: "freemem", 14: "semcreate", 15: "semdelete", 16: "semreset", 17: "semcount", 18: "wait", 19: "signal", 20: "signaln", 21: "send",
-         22: "receive", 23: "recvclr", 24: "recvtime", 26: "sleepms", 28: "mkbufpool", 29: "getbuf", 30: "freebuf", 31: "ptcreate",
-         32: "ptdelete", 33: "ptreset", 34: "ptsend", 35: "ptrecv", 39: "write", 41: "putc"}
+         11: "freemem", 12: "getstk", 13: "freestk", 14: "semcreate", 15: "semdelete", 16: "semreset", 17: "semcount", 18: "wait", 19:
+         "signal", 20: "signaln", 21: "send", 22: "receive", 23: "recvclr", 24: "recvtime", 26: "sleepms", 28: "mkbufpool", 29: "getbuf",
+         30: "freebuf", 31: "ptcreate", 32: "ptdelete", 33: "ptreset", 34: "ptsend", 35: "ptrecv", 38: "read", 39: "write", 41: "putc"}
 LOOKS_UP = (3, 4, 5, 7, 8, 21)  # what tells by a refusal that a number is free
 
 
@@ -33,12 +33,12 @@ class Port:
         self.room, self.send, self.receive, self.messages = room, send, receive, []
 
 
-class Machine(Core):
+class Kernel(Core):
     """The machine with its calls."""
 
     def __init__(self, image):
         self.semaphores, self.last_semaphore = {number: None for number in range(4)}, 3
-        self.pools, self.ports, self.sequence, self.next_port, self.output = [], {}, [0] * 30, 0, 0
+        self.pools, self.ports, self.sequence, self.next_port = [], {}, [0] * 30, 0
         super().__init__(image)
 
     @property
@@ -115,13 +115,25 @@ class Machine(Core):
         self.die(process.number)
 
     def call_getmem(self, process, count):
-        address = self.heap.take(count, False)
-        if address is None:
-            return REFUSED
-        size = (count + 7) // 8 * 8
-        self.moment.give(address, size)
-        self.blocks.append({"low": address, "end": address + size, "process": process.number, "event": self.now, "freed": float("inf")})
+        address = self.granted(process, "getmem", count)
+        return REFUSED if address is None else address
+
+    def call_getstk(self, process, count):
+        address = self.granted(process, "getstk", count)
+        return REFUSED if address is None else address + (count + 7) // 8 * 8 - 4
+
+    def granted(self, process, call, count):
+        """The lowest address of the memory that a process gets, or none."""
+        address, size = self.heap.take(count, call == "getstk"), (count + 7) // 8 * 8
+        if address is not None:
+            self.moment.give(address, size)
+            self.blocks.append({"low": address, "end": address + size, "process": process.number, "event": self.now, "freed": float("inf"),
+                                "call": call})
         return address
+
+    def call_freestk(self, process, top, count):
+        low = top + 4 - (count + 7) // 8 * 8
+        return REFUSED if low < 0 else self.call_freemem(process, low, count)
 
     def call_freemem(self, process, address, count):
         if not self.heap.free(address, count):
@@ -354,22 +366,3 @@ class Machine(Core):
         self.moment.learn("port", part)
         self.signalled(self.ports[q].send)
         return message
-
-    def call_write(self, process, device, address, count):
-        if device or signed(count) < 0 or address + count > RAM:
-            return REFUSED
-        self.moment.touch(False, process.number, self.at, address, count)
-        self.shown(self.ram[address : address + count])
-        return count
-
-    def shown(self, data):
-        """The console gets bytes, a carriage return before each newline."""
-        self.output += sum(2 if byte == 10 else 1 for byte in data)
-        if self.output > 64:
-            raise NotImplementedError("the console has no room")
-
-    def call_putc(self, _, device, byte):
-        if device:
-            return REFUSED
-        self.shown([byte & 255])
-        return 0

@@ -39,9 +39,10 @@ class Parts:
         self.numbers, self.before, self.last, self.pending = {}, [], {}, collections.defaultdict(list)
         for moment in moments:
             edges = [edge for edge in moment.edges if edge[0] not in without]
-            for dead in moment.dead:
-                if dead != moment.stepper:
-                    self.add(moment.number, dead, [])
+            others = [*moment.dead, *(process for _, process, *_ in moment.deeds if process)]
+            for other in dict.fromkeys(others):
+                if other != moment.stepper:
+                    self.add(moment.number, other, [])
             if moment.stepper:
                 self.add(moment.number, moment.stepper, [edge[1:3] for edge in edges if edge[3] == moment.stepper])
             for _, event, source, target in edges:

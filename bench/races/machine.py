@@ -1,4 +1,4 @@
-"""A second machine of the kernel by docs/KERNEL.md, for programs of one image without devices but the console's output. It takes events, prints
+"""A second machine of the kernel by docs/KERNEL.md, for programs of one image without devices but the console. It takes events, prints
 the transcript, and writes down of each event what docs and crates/data_races say of memory and of order (history.py). The instructions are
 those of bench/second.py."""
 import struct
@@ -8,8 +8,8 @@ from races.history import Moment
 from second import INITRET, RAM, Trap, signed
 
 REFUSED = -1
-ARGUMENTS = {1: 0, 2: 6, 3: 1, 4: 1, 5: 1, 6: 0, 7: 2, 8: 1, 9: 0, 10: 1, 11: 2, 14: 1, 15: 1, 16: 2, 17: 1, 18: 1, 19: 1, 20: 2, 21: 2, 22: 0,
-             23: 0, 24: 1, 26: 1, 28: 2, 29: 1, 30: 1, 31: 1, 32: 2, 33: 2, 34: 2, 35: 1, 39: 3, 41: 2}
+ARGUMENTS = {1: 0, 2: 6, 3: 1, 4: 1, 5: 1, 6: 0, 7: 2, 8: 1, 9: 0, 10: 1, 11: 2, 12: 1, 13: 2, 14: 1, 15: 1, 16: 2, 17: 1, 18: 1, 19: 1,
+             20: 2, 21: 2, 22: 0, 23: 0, 24: 1, 26: 1, 28: 2, 29: 1, 30: 1, 31: 1, 32: 2, 33: 2, 34: 2, 35: 1, 38: 3, 39: 3, 41: 2}
 
 
 class Heap:
@@ -70,19 +70,25 @@ class Core(second.State):
         """Whether only the null process is left."""
         return len(self.processes) == 1
 
-    def event(self, kind):
-        """Takes an event, `step` or `tick`."""
+    def event(self, kind, byte=0):
+        """Takes an event: `step`, `tick`, `tx`, or `type` of a byte."""
         self.now += 1
         before = self.current
-        if kind == "tick":
+        if kind != "step":
             self.moment = None
-            self.tick()
+            self.interrupt(kind, byte)
         elif self.current:
             self.moment = Moment(self.now, self.current)
             self.moments.append(self.moment)
             self.step()
         if self.current != before:
             self.lines.append(f"run {self.current}")
+
+    def interrupt(self, kind, _):
+        """An event that is no step; `tx` and `type` are the console's."""
+        if kind != "tick":
+            raise NotImplementedError(kind)
+        self.tick()
 
     def step(self):
         """A step of a process: what is left of its call, or an instruction."""

@@ -1,11 +1,12 @@
 """Small programs for the second detector, and schedules: each is made by its number alone. Two or three processes beside the first one use shared
-words, semaphores with counts 0 to 2, messages, now and then a pool, a port, a block of the heap and the stack of the first one; they make,
-resume, suspend and kill each other. Nobody cares whether that makes sense."""
+words, semaphores with counts 0 to 2, messages and each other's stacks, and now and then a pool, a port, a block of the heap, the console or the
+raw disk; they make, resume, suspend and kill each other. Nobody cares whether that makes sense."""
 import random
 
 WORDS = 8  # shared words
 BLOCK, STACK = 4 * WORDS, 4 * WORDS + 4  # where the addresses of the block and of a word of the first stack are kept
 TEXTS = '''shared: .zero {size}
+block:  .zero 512
 name:   .ascii "a\\0"
         .zero 2
 longer: .ascii "worker_of_many\\0"
@@ -19,14 +20,18 @@ class Maker:
         self.rng = random.Random(f"program {number}")
         self.workers = self.rng.choice((2, 2, 3))
         self.semaphores = [4 + k for k in range(self.rng.randint(1, 3))]
-        self.has_pool, self.has_port, self.has_block = (self.rng.random() < chance for chance in (0.6, 0.6, 0.5))
-        self.labels, self.lines, self.writes = 0, [], 3
+        self.has_pool, self.has_port, self.has_block, self.has_console, self.has_disk = (
+            self.rng.random() < chance for chance in (0.6, 0.6, 0.5, 0.4, 0.2))
+        self.labels, self.lines = 0, []
         # what there is to do, and how often it is done
         self.deeds = [(self.load, 8), (self.store, 6), (self.add, 6), (self.wait, 4), (self.signal, 7), (self.locked, 6), (self.send, 5),
                       (self.receive, 3), (self.rest, 2), (self.suspend, 1), (self.resume, 5), (self.look, 2), (self.kill, 1), (self.renew, 1),
-                      (self.child, 1), (self.first_stack, 2), (self.own_stack, 2), (self.write, 1), (self.narrow, 3), (self.hand_over, 12),
+                      (self.child, 1), (self.first_stack, 2), (self.own_stack, 2), (self.narrow, 3), (self.hand_over, 12),
                       (self.take_over, 14)]
-        self.deeds += [(self.buffer, 8), (self.borrowed, 12)] * self.has_pool + [(self.port, 12)] * self.has_port + [(self.block, 5)] * self.has_block
+        self.deeds += [(self.buffer, 8), (self.borrowed, 12)] * self.has_pool + [(self.port, 12)] * self.has_port
+        self.deeds += [(self.block, 8), (self.stray, 2)] * self.has_block
+        self.deeds += [(self.write, 8), (self.read, 4), (self.newline, 3)] * self.has_console
+        self.deeds += [(self.disk, 8), (self.in_block, 8)] * self.has_disk
 
     def put(self, *lines):
         self.lines += ["        " + line for line in lines]
@@ -150,9 +155,19 @@ class Maker:
             self.put("addi t0, sp, -8", f"sw   t0, {STACK}(s0)")
 
     def write(self):
-        if self.writes:
-            self.writes -= 1
-            self.put(f"addi a1, s0, {self.word()}", "li   a0, 0", f"li   a2, {self.rng.randint(0, 4)}", "sys  write")
+        self.put(f"addi a1, s0, {self.word()}", "li   a0, 0", f"li   a2, {self.rng.randint(0, 28)}", "sys  write")
+
+    def read(self):
+        self.put(f"addi a1, s0, {self.word()}", "li   a0, 0", f"li   a2, {self.rng.randint(0, 6)}", "sys  read")
+
+    def disk(self):
+        self.put("la   a1, block", "li   a0, 2", f"li   a2, {self.rng.choice((0, 1, 2, 8))}", self.rng.choice(("sys  read", "sys  write")))
+
+    def in_block(self):
+        self.put("la   t1, block", f"{self.rng.choice(('lw', 'sw'))}   t0, {4 * self.rng.choice((0, 60, 127))}(t1)")
+
+    def newline(self):
+        self.put("addi t0, zero, 10", f"sb   t0, {self.word() + self.rng.randrange(4)}(s0)")
 
     def buffer(self):
         self.rng.choice((self.take_buffer, self.use_buffer, self.use_buffer, self.free_buffer))()
@@ -195,13 +210,17 @@ class Maker:
 
     def block(self):
         kind = self.rng.random()
-        if kind < 0.5:
+        if kind < 0.4:
             self.put(f"lw   t1, {BLOCK}(s0)", self.rng.choice(("lw   t0, 0(t1)", "sw   t0, 4(t1)", "sh   t0, 6(t1)")))
-        elif kind < 0.75:
-            self.call("getmem", self.rng.choice((8, 12, 16)))
+        elif kind < 0.7:
+            self.call(self.rng.choice(("getmem", "getstk")), self.rng.choice((8, 12, 16)))
             self.put(f"sw   a0, {BLOCK}(s0)")
         else:
-            self.put(f"lw   a0, {BLOCK}(s0)", "li   a1, 16", "sys  freemem")
+            self.put(f"lw   a0, {BLOCK}(s0)", "li   a1, 16", self.rng.choice(("sys  freemem", "sys  freestk")))
+
+    def stray(self):
+        """A part of a stack or of a pool is given back, and may be got again."""
+        self.put(self.rng.choice(("addi a0, sp, -64", f"lw   a0, {STACK}(s0)", "mv   a0, s1")), "li   a1, 8", "sys  freemem")
 
     def label(self):
         self.labels += 1
@@ -259,12 +278,15 @@ def program(number):
 
 
 def schedule(number, other):
-    """A schedule, as a list of (event, how many)."""
+    """A schedule, as a list of (event, how many); of what is typed, its bytes."""
     rng = random.Random(f"schedule {number} {other}")
     longest, rows, steps = rng.choice((2, 4, 9, 20)), [], 0
     while steps < 500:
         count = rng.randint(1, longest)
         rows += [("step", count), ("tick", rng.choice((1, 1, 2, 3)))]
+        if rng.random() < 0.2:
+            rows.append(rng.choice((("tx", rng.randint(1, 9)), ("type", rng.choice(("61", "62 63 0a", "0a"))), ("disk0", 1), ("disk0", 2),
+                                    ("fail0", 1))))
         steps += count
     return rows
 
@@ -276,3 +298,8 @@ def placed(number):
         rows += [("step", place - done), ("tick", 2)]
         done = place
     return [*rows, ("step", 300 - done)]
+
+
+def disk():
+    """A raw disk of eight blocks."""
+    return b"".join(bytes([48 + k]) * 512 for k in range(8))

@@ -37,7 +37,7 @@ def owner_of(machine, byte, event):
     if block or blocks:
         block = block or blocks[-1]
         holder = who(life_of(machine, block["process"], block["event"]))
-        return ("block", block["event"]), f" on memory that {holder} got by getmem in event {block['event']},"
+        return ("block", block["event"]), f" on memory that {holder} got by {block['call']} in event {block['event']},"
     return ("word", byte // 4), ""
 
 
