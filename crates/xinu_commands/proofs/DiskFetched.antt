@@ -4,7 +4,6 @@ use Rattle.std.proofs.lemmas.Bool.{lt-leb}
 use Rattle.lfs_check.specs.declared.faults.DiskFault.{DiskFault}
 use Rattle.lfs_check.specs.Faults.{named}
 use Rattle.lfs_check.specs.Geometries.{first_data}
-use Rattle.lfs_check.specs.Rules.{rule_0}
 use Rattle.lfs_layout.specs.Files.{File, blocks_for, have_room, padded_name, placed_files, total_for, with_set, without_name}
 use Rattle.lfs_layout.specs.Images.{opened}
 use Rattle.lfs_layout.specs.Made.{geometry_2}

@@ -25,6 +25,7 @@ pub mod SoakSent
 pub mod SoakVerdicts
 pub mod Staged
 pub mod Statuses
+pub mod TheWhole
 pub mod TraceStatuses
 pub mod UnnamedDisks
 pub mod WrittenFiles

@@ -202,7 +202,7 @@ reads_by true (Reads events) good = (events, refl)
 reads_by true (Bad l) good = cc
 reads_by true (Many l) good = cc
 
-good_reads : (bytes : List ℕ) → schedule_fault bytes ≡ None → (events : List Event) × (events_in bytes ≡ Some events)
+pub good_reads : (bytes : List ℕ) → schedule_fault bytes ≡ None → (events : List Event) × (events_in bytes ≡ Some events)
 unfolding schedule_fault
 good_reads bytes good = reads_by (nat_le (length bytes) longest_schedule) (reading bytes) good
 

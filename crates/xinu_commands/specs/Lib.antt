@@ -16,4 +16,5 @@ pub mod Theorem
 pub mod TraceVerdict
 pub mod Transcripts
 pub mod Verdict
+pub mod Whole
 pub mod Work

@@ -31,7 +31,13 @@ ghost use Rattle.run_inputs.specs.InputDisks.{disk_fault, empty_disk0, empty_dis
 ghost use Rattle.xinu_commands.specs.SoakVerdict.{soak_verdict};
 ghost use Rattle.run_inputs.specs.InputFiles.{disk_bytes, file_bytes, image_bytes};
 ghost use Rattle.xinu_commands.specs.Verdict.{ScheduleInput, Disk0Input, Disk1Input, ImageInput, TraceInput, SourceInput, verdict};
+ghost use Rattle.xinu_commands.specs.Whole.{Whole};
 ghost use Rattle.xinu_commands.specs.Work.{Does, Left, Soaking};
+
+/// What `run` sends is that of a run of the abstract machine if its status is 0, and else the beginning of it (`specs/Whole.antt`).
+pub fn the_whole()
+    ensures { (exit : ℕ) (files : RunFiles) (old new : Outside) (left : Option Left) → Answers exit (Some (Run files)) old new left → Whole exit files old new left }
+{}
 
 /// The exit status is 0, 2, 3, 4, 5, 6, 7, 8, 9, 10, 11, 12 or 13.
 pub fn statuses_are_these()
