@@ -5,5 +5,6 @@ pub mod Kept
 pub mod OneRun
 pub mod Others
 pub mod SameRuns
+pub mod Sent
 pub mod Tells
 pub mod Told

@@ -1,7 +1,7 @@
 -- An event that printed something else than before.
 use Rattle.std.proofs.Common.{◌≡◌, ◌∙◌, ℕ, List, length, Option, Some, sym, ap, subst, arith}
 use Rattle.std.specs.Prelude.{slice_get}
-use Rattle.printed_events.specs.Lines.{IsPrinted}
+use Rattle.replayed_run.specs.Lines.{IsPrinted}
 use Rattle.replayed_run.proofs.Kept.{kept-is, kept-length}
 use Rattle.replayed_run.specs.Progress.{PrintsOther}
 use Rattle.replayed_run.specs.Replayed.{Replayed}

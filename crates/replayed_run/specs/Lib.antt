@@ -1,3 +1,4 @@
+pub mod Lines
 pub mod Progress
 pub mod Replayed
 pub mod Replays

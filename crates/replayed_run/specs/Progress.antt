@@ -1,6 +1,6 @@
 -- What the next event of a run did, and what steps that print nothing did.
 use Rattle.std.specs.Prelude.{◌≡◌, ◌≢◌, ◌+◌, ◌<◌, ℕ, true, false, List, length, Option, Some, is_some, slice_get}
-use Rattle.printed_events.specs.Lines.{IsPrinted}
+use Rattle.replayed_run.specs.Lines.{IsPrinted}
 use Rattle.replayed_run.specs.Replayed.{Replayed}
 use Rattle.replayed_run.specs.Told.{text_at}
 use Rattle.xinu_base.specs.declared.events.End.{End}

@@ -19,18 +19,23 @@
 //! | [`Replay::files`] | | `files`: the files of its images |
 //! | [`Replay::tables`] | | `printed`: the lines of the tables of the state |
 //! | [`Replay::state`] | | `state`, `sound`: the state, part by part |
+//! | [`start`], [`take`], [`tables`] | the run goes on | the same of a machine alone: `printed`: what it prints at its start, of an event, and of its tables; `goes`: whether the event ends the run |
+//! | [`Printed::bytes`], [`Taken::bytes`] | | `bytes`: what was printed; `lines` as a text |
 //! | [`laws::runs_are_one`] | | `state`, `over`: a run that comes back to where as many events were taken is in the state that it had there, and is over if it was |
 //! | [`laws::runs_go_on`] | | a run that came to one place isn't over at an earlier one |
 //!
-//! The inputs are those of `run_inputs`, which boots them on copies, and an event is taken by `printed_events`. The crate depends on
-//! `machine` for what an event does, and on `schedule_file` for a copy of the schedule.
+//! The inputs are those of `run_inputs`, which boots them on copies. The crate depends on `machine` for what an event does, and on
+//! `schedule_file` for a copy of the schedule. A clause sees a [`Printed`] as its bytes.
 #![tactic(auto)]
 
+mod events;
 pub mod laws;
+mod printed;
 mod replay;
 mod texts;
 
+pub use events::{Taken, start, tables, take};
 pub use machine::BootFault;
-pub use printed_events::{Printed, Taken};
+pub use printed::Printed;
 pub use replay::Replay;
 pub use texts::ReplayFault;

@@ -12,9 +12,10 @@ ghost use Rattle.run_inputs.specs.InputFaults.{have_fault};
 ghost use Rattle.xinu_model.specs.Sound.State.{IsSound};
 ghost use Rattle.xinu_model.specs.Text.{tables_of, text};
 
+use crate::events::{Taken, tables, take_event};
+use crate::printed::Printed;
 use crate::texts::{ReplayFault, Texts};
 use machine::{BootFault, Go, KernelState, Machine};
-use printed_events::{Printed, Taken, tables, take_event};
 use run_inputs::Inputs;
 use schedule_file::Schedule;
 use std::alloc::Global;

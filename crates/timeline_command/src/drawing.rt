@@ -7,7 +7,7 @@ use crate::parts::Drawing;
 use crate::words::Part;
 use host_port::HostFault;
 use machine::{Go, Machine};
-use printed_events::{start, tables, take};
+use replayed_run::{start, tables, take};
 use run_inputs::{Inputs, Refusal};
 use run_picture::Ending;
 use schedule_file::Schedule;

@@ -3,7 +3,7 @@
 ghost use Rattle.std.specs.Prelude.{◌≡◌, ◌<◌, ◌+◌, ◌∷◌, [], false, is_some, IfOk, IsErrOf, MatchResult, None, Some};
 ghost use Rattle.std.specs.Str.{IsUtf8};
 ghost use Rattle.machine.specs.RunEnds.{end_of_go};
-ghost use Rattle.printed_events.specs.Lines.{IsPrinted};
+ghost use Rattle.replayed_run.specs.Lines.{IsPrinted};
 ghost use Rattle.xinu_base.specs.declared.lines.TranscriptLine.TheVariants as line;
 ghost use Rattle.xinu_model.specs.Events.{panics_in};
 ghost use Rattle.xinu_model.specs.Runs.{end_with, is_over};

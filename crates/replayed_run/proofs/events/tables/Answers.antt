@@ -1,7 +1,7 @@
 -- The tables were printed.
-use Rattle.printed_events.proofs.Sent.{text-printed}
+use Rattle.replayed_run.proofs.Sent.{text-printed}
 use Rattle.xinu_model.specs.Text.{tables_of, text}
-use Rattle.printed_events.proofs.events.tables.Goals as goal
+use Rattle.replayed_run.proofs.events.tables.Goals as goal
 
 pub returns-in-Some-clause-printed : goal.returns-in-Some-clause-printed
 returns-in-Some-clause-printed c =

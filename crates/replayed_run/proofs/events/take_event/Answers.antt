@@ -1,6 +1,6 @@
 -- The event happened, and its lines were printed.
-use Rattle.printed_events.proofs.Sent.{bytes-sent}
-use Rattle.printed_events.proofs.events.take_event.Goals as goal
+use Rattle.replayed_run.proofs.Sent.{bytes-sent}
+use Rattle.replayed_run.proofs.events.take_event.Goals as goal
 
 pub returns : goal.returns
 returns c =

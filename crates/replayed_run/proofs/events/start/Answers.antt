@@ -1,9 +1,9 @@
 -- The line was printed.
 use Rattle.std.proofs.Common.{◌∷◌, []}
-use Rattle.printed_events.proofs.Sent.{text-printed}
+use Rattle.replayed_run.proofs.Sent.{text-printed}
 use Rattle.xinu_base.specs.declared.lines.TranscriptLine.TheVariants.{Switch}
 use Rattle.xinu_model.specs.Text.{text}
-use Rattle.printed_events.proofs.events.start.Goals as goal
+use Rattle.replayed_run.proofs.events.start.Goals as goal
 
 pub returns-in-Some-clause-printed : goal.returns-in-Some-clause-printed
 returns-in-Some-clause-printed c =
