@@ -49,6 +49,11 @@ impl Watcher {
         self.detector.told()
     }
 
+    /// So many steps of the null process were taken, which do nothing.
+    pub fn pass_by(&mut self, steps: u32) {
+        self.number = self.number.saturating_add(steps);
+    }
+
     /// An event comes next, in this state.
     ///
     /// # Errors
