@@ -5,4 +5,3 @@ pub mod KeptRegisters
 pub mod Passed
 pub mod Registers
 pub mod SameInputs
-pub mod ToldLeft

@@ -1,12 +1,10 @@
 pub mod Changes
 pub mod Ends
 pub mod Happenings
-pub mod Left
 pub mod Passing
 pub mod Reasons
 pub mod Sights
 pub mod Stories
 pub mod Theorem
 pub mod Traces
-pub mod Whereabouts
 pub mod Words

@@ -1,7 +1,6 @@
 -- What is told of a run. Read `TellsRun`, at the end, first.
 use Rattle.std.specs.Prelude.{◌≡◌, ◌⊎◌, ◌==◌, ◌||◌, ℕ, true, false, List, [], ◌++◌, map, Option, Some, None, Result, Ok, Err}
 use Rattle.explain_command.specs.Ends.{HasEnded, call_text}
-use Rattle.explain_command.specs.Left.{AreTold, left_head}
 use Rattle.explain_command.specs.Traces.{IsUnstarted, SendsPart}
 use Rattle.explain_command.specs.Words.{Asked}
 use Rattle.explain_command.specs.declared.sights.Sight.{Sight}
@@ -16,6 +15,7 @@ use Rattle.run_inputs.specs.declared.inputs.Inputs.{Inputs}
 use Rattle.run_inputs.specs.declared.refusals.Refusal.{Refusal}
 use Rattle.run_inputs.specs.declared.refusals.Refusal.TheVariants as refusal
 use Rattle.run_story.specs.Endings.{after_line, ending_line}
+use Rattle.told_left.specs.Left.{AreTold, left_head}
 use Rattle.xinu_base.specs.declared.events.End.{End}
 
 -- ---- the text
@@ -28,7 +28,7 @@ pub record HasParts (steps : Option (ℕ × ℕ)) (r : Replayed) (end : End) (te
   pub panicked : Option Sight
   pub traps : List ℕ
   pub left : List ℕ
-  pub told : AreTold r.state.tables 63 left
+  pub told : AreTold r.files r.state 63 left
   pub rest : List ℕ
   pub is : text ≡ listing ++ ending_line end r.taken r.state.tables.ticks (call_text panicked) ++ traps ++ left_head r.state.tables ++ left ++ rest
 

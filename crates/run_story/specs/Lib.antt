@@ -1,4 +1,3 @@
 pub mod Endings
 pub mod Holders
-pub mod Left
 pub mod Said

@@ -8,24 +8,13 @@ use xinu_base::State;
 /// From how many ticks on it is told that a process is ready and doesn't run.
 const LONG: u32 = 4;
 
-/// What is told of a process that is left beside its number and its state.
+/// What is told of a process that is left beside what the state says of it.
 #[derive(Drop)]
 pub struct LeftWords {
-    /// Its name, after a blank; nothing if it has none.
-    pub name: Text,
-    /// The word for what it waits for, if it waits for a semaphore.
-    pub awaited: Text,
     /// The number of the event since which it does what it does.
     pub since: u64,
     /// What else is told.
     pub more: Text,
-}
-
-impl LeftWords {
-    /// Whether memory never ran out for it.
-    pub fn are_whole(&self) -> bool {
-        self.name.is_whole() && self.awaited.is_whole() && self.more.is_whole()
-    }
 }
 
 /// What is told of a process that is left, at this tick.
@@ -38,13 +27,9 @@ pub(crate) fn left_words(
 ) -> LeftWords {
     let life = lives.life(process);
     let mut words = LeftWords {
-        name: Text::new(alloc),
-        awaited: Text::new(alloc),
         since: life.since,
         more: Text::new(alloc),
     };
-    lives.add_name_of(&mut words.name, process);
-    life.doing.add_word(&mut words.awaited);
     add_more(&mut words.more, lives, reader, life, tick);
     words
 }

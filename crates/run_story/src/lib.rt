@@ -13,8 +13,7 @@
 //! | [`push_ending`] | `ending`: appends the line that tells how a run ended (`ending_line` in `specs/Endings.antt`) |
 //! | [`push_state_head`] | `after`: appends the line before what is told of a state (`after_line` there) |
 //! | [`Story::tell_traps`] | tells the traps |
-//! | [`push_left`] | `left`: appends the line of a process that is left (`left_line` in `specs/Left.antt`) |
-//! | [`Story::left_words`] | what is told of such a process beside its number and its state |
+//! | [`Story::left_words`] | what is told of a process that is left beside what the state says: since which event, and what else |
 //! | [`Story::tell_rest`] | tells who waits in a circle, and what the console showed |
 //! | [`Story::add_who`] | the number and the name of a process |
 //!
@@ -26,7 +25,6 @@ mod circles;
 mod console;
 mod endings;
 mod left;
-mod left_lines;
 mod lives;
 mod loops;
 mod story;
@@ -34,6 +32,5 @@ mod traps;
 
 pub use endings::{push_ending, push_state_head};
 pub use left::LeftWords;
-pub use left_lines::push_left;
 pub use loops::Loops;
 pub use story::Story;

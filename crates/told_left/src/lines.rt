@@ -1,7 +1,7 @@
-//! The line of a process that is left at a run's end.
+//! The line of a process that is left.
 
 ghost use Rattle.std.specs.Prelude.{◌≡◌, ◌++◌, OnOk};
-ghost use Rattle.run_story.specs.Left as spec;
+ghost use Rattle.told_left.specs.Lines as spec;
 
 use itoa::Buffer;
 use std::alloc::AllocError;
@@ -12,15 +12,15 @@ use xinu_base::State;
 ///
 /// # Errors
 /// Out of memory.
-#[tactic(auto, unfolding(crate::specs::Left::left_line))]
-pub fn push_left(
+#[tactic(auto, unfolding(crate::specs::Lines::left_line))]
+pub(crate) fn push_left(
     told: &mut Vec<u8>,
     process: u32,
     state: State,
-    name: &str,
-    awaited: &str,
+    name: &[u8],
+    awaited: &[u8],
     since: u64,
-    more: &str,
+    more: &[u8],
 ) -> Result<(), AllocError>
     ensures left { OnOk result (told.new.items ≡ told.old.items ++ spec.left_line process state name.now awaited.now since more.now) }
 {
@@ -30,19 +30,19 @@ pub fn push_left(
 }
 
 // Appends the number and the name of a process.
-#[tactic(auto, unfolding(crate::specs::Left::who_text))]
-fn push_who(told: &mut Vec<u8>, before: &str, process: u32, name: &str) -> Result<(), AllocError>
+#[tactic(auto, unfolding(crate::specs::Lines::who_text))]
+fn push_who(told: &mut Vec<u8>, before: &str, process: u32, name: &[u8]) -> Result<(), AllocError>
     ensures who { OnOk result (told.new.items ≡ told.old.items ++ spec.who_text before.now process name.now) }
 {
     let mut digits = Buffer::new();
     told.extend_from_slice(before.as_bytes())?;
     told.extend_from_slice(digits.format(process).as_bytes())?;
-    told.extend_from_slice(name.as_bytes())
+    told.extend_from_slice(name)
 }
 
 // Appends what a process in a state does.
-#[tactic(auto, unfolding(crate::specs::Left::state_text))]
-fn push_state(told: &mut Vec<u8>, state: State, awaited: &str) -> Result<(), AllocError>
+#[tactic(auto, unfolding(crate::specs::Lines::state_text))]
+fn push_state(told: &mut Vec<u8>, state: State, awaited: &[u8]) -> Result<(), AllocError>
     ensures state { OnOk result (told.new.items ≡ told.old.items ++ spec.state_text state awaited.now) }
 {
     match state {
@@ -57,20 +57,20 @@ fn push_state(told: &mut Vec<u8>, state: State, awaited: &str) -> Result<(), All
 }
 
 // Appends two words.
-fn push_both(told: &mut Vec<u8>, before: &str, after: &str) -> Result<(), AllocError>
+fn push_both(told: &mut Vec<u8>, before: &str, after: &[u8]) -> Result<(), AllocError>
     ensures both { OnOk result (told.new.items ≡ told.old.items ++ (before.now ++ after.now)) }
 {
     told.extend_from_slice(before.as_bytes())?;
-    told.extend_from_slice(after.as_bytes())
+    told.extend_from_slice(after)
 }
 
 // Appends since which event a process does what it does, and what else is told.
-#[tactic(auto, unfolding(crate::specs::Left::since_text))]
+#[tactic(auto, unfolding(crate::specs::Lines::since_text))]
 fn push_since(
     told: &mut Vec<u8>,
     before: &str,
     since: u64,
-    more: &str,
+    more: &[u8],
     after: &str,
 ) -> Result<(), AllocError>
     ensures since { OnOk result (told.new.items ≡ told.old.items ++ spec.since_text before.now since more.now after.now) }
@@ -78,6 +78,6 @@ fn push_since(
     let mut digits = Buffer::new();
     told.extend_from_slice(before.as_bytes())?;
     told.extend_from_slice(digits.format(since).as_bytes())?;
-    told.extend_from_slice(more.as_bytes())?;
+    told.extend_from_slice(more)?;
     told.extend_from_slice(after.as_bytes())
 }

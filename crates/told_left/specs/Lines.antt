@@ -1,4 +1,4 @@
--- What is told of a process that is left at the end of a run.
+-- The line of a process that is left.
 use Rattle.std.specs.Prelude.{ℕ, List, [], ◌++◌, codes}
 use Rattle.std.specs.Fmt.{decimal}
 use Rattle.xinu_base.specs.declared.processes.State.{State}

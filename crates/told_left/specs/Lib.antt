@@ -1,0 +1,6 @@
+pub mod Awaited
+pub mod Calls
+pub mod Left
+pub mod Lines
+pub mod Names
+pub mod Whereabouts
