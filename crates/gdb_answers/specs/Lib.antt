@@ -4,4 +4,3 @@ pub mod Descriptions
 pub mod Registers
 pub mod Stops
 pub mod Threads
-pub mod Waiting

@@ -11,7 +11,8 @@
 //! | [`process_of`] | `process`: the process of a thread's number; `None` if and only if there is none |
 //! | [`thread_text`] | `text`: the number of a process's thread |
 //!
-//! The crate depends on `gdb_packets` for the commands, and on `kernel_state` for the state and its parts.
+//! The crate depends on `gdb_packets` for the commands, on `kernel_state` for the state and its parts, and on `process_waits` for what a process
+//! waits for.
 #![tactic(auto)]
 
 mod answers;
@@ -21,7 +22,6 @@ mod fixed;
 mod registers;
 mod stops;
 mod threads;
-mod waiting;
 
 pub use answers::answer;
 pub use stops::{Stop, stop_text};

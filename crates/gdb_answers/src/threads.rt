@@ -2,13 +2,13 @@
 
 ghost use Rattle.std.specs.Prelude.{◌≡◌, ◌≤◌, ◌+◌, ◌∷◌, [], ◌++◌, IfOk, OnOk, not};
 ghost use Rattle.gdb_answers.specs.Threads as spec;
-ghost use Rattle.gdb_answers.specs.Waiting as waits;
+ghost use Rattle.process_waits.specs.Waiting as waits;
 ghost use Rattle.xinu_model.specs.Tables.{is_free, state_at};
 
-use crate::waiting::{awaited, wake_of};
 use gdb_packets::push_hex;
 use itoa::Buffer;
 use kernel_tables::KernelTables;
+use process_waits::{awaited, wake_of};
 use std::alloc::{AllocError, Global};
 use xinu_base::{Pid, State};
 
