@@ -1,6 +1,6 @@
 //! The run that is judged: its events are taken, and the detector is told of each.
 
-ghost use Rattle.std.specs.Prelude.{◌≡◌, ◌<◌, ◌+◌, false, true, IfOk, OnOk};
+ghost use Rattle.std.specs.Prelude.{◌≡◌, ◌<◌, false, true, IfOk, OnOk};
 ghost use Rattle.judge_command.specs.Judging.{IsJudgement};
 ghost use Rattle.replayed_run.specs.Replayed.{HasInputs, is_at_end};
 
@@ -58,45 +58,39 @@ fn take_events(
     ensures ended { OnOk result (is_at_end replay.new ≡ true) }
 {
     while let Some(event) = replay.next() {
-        let idle = take_idle_steps(replay);
-        if idle > 0 {
-            watcher.pass_by(idle);
-            continue;
-        }
         watcher.ahead(replay.state(), event)?;
-        take_event(replay, event, history)?;
+        let taken = take_event(replay, event, history)?;
         watcher.after(replay.state())?;
+        watcher.pass_by(taken.saturating_sub(1));
         reports.tell(watcher.told(), history, replay)?;
     }
     Ok(())
 }
 
-// Takes the steps that come next if they are those of the null process, which does nothing; how many they were.
-fn take_idle_steps(replay: &mut Replay) -> u32
-    requires goes_on { is_at_end replay.old ≡ false }
-    ensures further { replay.new.taken ≡ replay.old.taken + result }
-    ensures inputs { HasInputs replay.old.disks replay.old.files replay.old.events replay.new }
-{
-    if replay.state().tables.current().index() == 0 {
-        replay.take_steps(u32::MAX)
-    } else {
-        0
-    }
-}
-
-// Takes the event that comes next, and notes what it means for owners of bytes: nothing, if it is a step that prints nothing.
-fn take_event(replay: &mut Replay, event: Event, history: &mut History) -> Result<(), HostFault>
+// Takes the event that comes next, and notes what it means for owners of bytes: nothing, if it is a step that prints nothing. If it is one of the
+// null process those that follow are taken too. How many were taken.
+fn take_event(replay: &mut Replay, event: Event, history: &mut History) -> Result<u32, HostFault>
     requires goes_on { is_at_end replay.old ≡ false }
     ensures further { OnOk result (replay.old.taken < replay.new.taken) }
     ensures inputs { HasInputs replay.old.disks replay.old.files replay.old.events replay.new }
 {
-    if replay.take_steps(1) == 1 {
-        return Ok(());
+    let count = replay.take_steps(steps_at_once(replay));
+    if count > 0 {
+        return Ok(count);
     }
     let call = call_ahead(replay.state(), event);
     take(replay)?;
     history.note(replay.state(), replay.taken(), call)?;
-    Ok(())
+    Ok(1)
+}
+
+// How many steps may be taken at once: all of the null process, which does nothing, and one of any other.
+fn steps_at_once(replay: &Replay) -> u32 {
+    if replay.state().tables.current().index() == 0 {
+        u32::MAX
+    } else {
+        1
+    }
 }
 
 // Takes the event that comes next.
