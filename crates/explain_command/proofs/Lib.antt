@@ -5,3 +5,4 @@ pub mod KeptRegisters
 pub mod Passed
 pub mod Registers
 pub mod SameInputs
+pub mod ToldRefusals

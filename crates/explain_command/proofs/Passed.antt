@@ -1,8 +1,10 @@
--- What is noted, after one event more.
-use Rattle.std.proofs.Common.{◌≡◌, ◌∙◌, ℕ, suc, List, [], ◌∷◌, refl, sym, subst, ap, arith, inl, inr}
+-- What is noted of strays and of refused calls, after one event more.
+use Rattle.std.proofs.Common.{◌≡◌, ◌∙◌, ℕ, suc, List, [], ◌∷◌, ◌++◌, refl, sym, subst, ap, arith, inl, inr}
 use Rattle.std.specs.Prelude.{length, slice_get, Option, Some}
-use Rattle.explain_command.specs.Passing.{HasNoted, Passes, TakesNext}
+use Rattle.explain_command.specs.Passing.{HasNoted, HasRefused, Passes, TakesNext}
 use Rattle.memory_strays.specs.Strays.{Noted, note_event, noted, nothing_noted}
+use Rattle.refused_calls.specs.Refusals.{refusals_of, refused_in}
+use Rattle.refused_calls.specs.declared.refused.Refused.{Refused}
 use Rattle.replayed_run.specs.Progress.{TakesEvent, TakesSteps}
 use Rattle.replayed_run.specs.Replayed.{Replayed}
 use Rattle.xinu_base.specs.declared.events.Event.{Event}
@@ -51,6 +53,35 @@ pub noted_after : (old mid new : Replayed) (event : Event) (x y : Noted) → Has
     → y ≡ note_event (Some event) mid.taken mid.state x → TakesNext mid new → HasNoted old new y
 noted_after old mid new event x y so next is takes =
     subst (λ z. HasNoted old new z) (ap (λ e. note_event e mid.taken mid.state x) next ∙ sym is) (noted_next old mid new x so takes)
+
+-- the refused calls of one state more
+refusals_more : (events : List Event) (s : Xinu) (earlier : List Xinu)
+    → refusals_of events (s ∷ earlier) ≡ refusals_of events earlier ++ refused_in (slice_get events (length earlier)) (length earlier) s
+unfolding refusals_of
+refusals_more events s earlier = refl
+
+refused_next : (old mid new : Replayed) (x : List Refused) → HasRefused old mid x → TakesNext mid new
+    → HasRefused old new (x ++ refused_in (slice_get mid.events mid.taken) mid.taken mid.state)
+refused_next old mid new x so takes =
+    record {
+      states = mid.state ∷ so.states;
+      passes = passed_more old mid new so.states so.passes takes;
+      many = ap suc so.many ∙ sym (next_taken mid new takes);
+      are = ap (λ n. x ++ refused_in (slice_get mid.events n) n mid.state) (sym so.many)
+          ∙ ap (λ (y : List Refused). y ++ refused_in (slice_get mid.events (length so.states)) (length so.states) mid.state) so.are
+          ∙ sym (refusals_more mid.events mid.state so.states) ∙ ap (λ l. refusals_of l (mid.state ∷ so.states)) (sym (next_events mid new takes));
+    }
+
+-- the same, of an event that is said to come next
+pub refused_after : (old mid new : Replayed) (event : Event) (x y : List Refused) → HasRefused old mid x → slice_get mid.events mid.taken ≡ Some event
+    → y ≡ x ++ refused_in (Some event) mid.taken mid.state → TakesNext mid new → HasRefused old new y
+refused_after old mid new event x y so next is takes =
+    subst (λ z. HasRefused old new z) (ap (λ e. x ++ refused_in e mid.taken mid.state) next ∙ sym is) (refused_next old mid new x so takes)
+
+-- no call is refused at the beginning
+pub refused_none : (r : Replayed) (x : List Refused) → r.taken ≡ 0 → x ≡ [] → HasRefused r r x
+unfolding Passes refusals_of
+refused_none r x none is = record { states = []; passes = refl; many = sym none; are = is }
 
 -- an event that was taken once no step was
 pub taken_after : (old mid new : Replayed) (printed : Option (List ℕ)) → TakesSteps 0 old mid → TakesEvent mid new printed → TakesEvent old new printed

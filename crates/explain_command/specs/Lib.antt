@@ -3,6 +3,7 @@ pub mod Ends
 pub mod Happenings
 pub mod Passing
 pub mod Reasons
+pub mod Refusals
 pub mod Sights
 pub mod Stories
 pub mod Theorem

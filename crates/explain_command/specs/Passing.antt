@@ -1,6 +1,8 @@
--- The states through which a run comes as it is told, and what is noted of strays in them.
+-- The states through which a run comes as it is told, and what is noted of strays and of refused calls in them.
 use Rattle.std.specs.Prelude.{◌≡◌, ◌⊎◌, ℕ, List, [], ◌∷◌, length, Option}
 use Rattle.memory_strays.specs.Strays.{Noted, noted}
+use Rattle.refused_calls.specs.Refusals.{refusals_of}
+use Rattle.refused_calls.specs.declared.refused.Refused.{Refused}
 use Rattle.replayed_run.specs.Progress.{TakesEvent, TakesSteps}
 use Rattle.replayed_run.specs.Replayed.{Replayed}
 use Rattle.xinu_model.specs.Machine.{Xinu}
@@ -27,3 +29,10 @@ pub record HasNoted (old new : Replayed) (x : Noted) : Type 0 where
   pub passes : Passes old states new
   pub many : length states ≡ new.taken
   pub notes : x ≡ noted new.files new.events states
+
+-- The refused calls are those of the events that were taken since the beginning of the run.
+pub record HasRefused (old new : Replayed) (calls : List Refused) : Type 0 where
+  pub states : List Xinu
+  pub passes : Passes old states new
+  pub many : length states ≡ new.taken
+  pub are : calls ≡ refusals_of new.events states

@@ -1,6 +1,8 @@
 -- What is told of a run. Read `TellsRun`, at the end, first.
-use Rattle.std.specs.Prelude.{◌≡◌, ◌⊎◌, ◌==◌, ◌||◌, ℕ, true, false, List, [], ◌++◌, map, Option, Some, None, Result, Ok, Err}
+use Rattle.std.specs.Prelude.{◌≡◌, ◌⊎◌, ◌==◌, ◌||◌, ℕ, Bool, true, false, List, [], ◌++◌, map, Option, Some, None, Result, Ok, Err}
 use Rattle.explain_command.specs.Ends.{HasEnded, call_text}
+use Rattle.explain_command.specs.Passing.{HasRefused}
+use Rattle.explain_command.specs.Refusals.{AreRefusals, kinds_told}
 use Rattle.explain_command.specs.Traces.{IsUnstarted, SendsPart}
 use Rattle.explain_command.specs.Words.{Asked}
 use Rattle.explain_command.specs.declared.sights.Sight.{Sight}
@@ -8,6 +10,8 @@ use Rattle.given_disks.specs.Disks.{disks_of}
 use Rattle.host_port.specs.HostCalls.{Rose}
 use Rattle.host_port.specs.Outside.{Outside, appended, counted}
 use Rattle.host_port.specs.declared.host.Channel.TheVariants.{Out}
+use Rattle.refused_calls.specs.declared.kinds.Kind.{Kind}
+use Rattle.refused_calls.specs.declared.refused.Refused.{Refused}
 use Rattle.replayed_run.specs.Replayed.{HasInputs, IsReplayed, Replayed, is_at_end}
 use Rattle.run_inputs.specs.declared.causes.Cause.{Cause}
 use Rattle.run_inputs.specs.declared.causes.Cause.TheVariants as cause
@@ -21,24 +25,29 @@ use Rattle.xinu_base.specs.declared.events.End.{End}
 -- ---- the text
 
 -- A text tells how a run ended, in a line: after the list of events, which is empty unless one is asked for, and ahead of all else. The line has
--- the end, the number of events that were taken and the tick of the state. After traps and strays it tells of the processes that are left.
-pub record HasParts (steps : Option (ℕ × ℕ)) (r : Replayed) (end : End) (text : List ℕ) : Type 0 where
+-- the end, the number of events that were taken and the tick of the state. After traps and strays it tells of these kinds of refused calls, and then
+-- of the processes that are left.
+pub record HasParts (steps : Option (ℕ × ℕ)) (kinds : List Kind) (r : Replayed) (end : End) (text : List ℕ) : Type 0 where
   pub listing : List ℕ
   pub unlisted : steps ≡ None → listing ≡ []
   pub panicked : Option Sight
   pub traps : List ℕ
+  pub refused : List ℕ
+  pub refusals : AreRefusals kinds refused
   pub left : List ℕ
   pub told : AreTold r.files r.state 63 left
   pub rest : List ℕ
-  pub is : text ≡ listing ++ ending_line end r.taken r.state.tables.ticks (call_text panicked) ++ traps ++ left_head r.state.tables ++ left ++ rest
+  pub is : text ≡ listing ++ ending_line end r.taken r.state.tables.ticks (call_text panicked) ++ traps ++ refused ++ left_head r.state.tables ++ left ++ rest
 
--- It is the story of a run: the run went on to its end, and that is told.
-pub record IsStory (steps : Option (ℕ × ℕ)) (r : Replayed) (text : List ℕ) : Type 0 where
+-- It is the story of a run: the run went on to its end, and that is told, with the calls that were refused in its events: each, or each kind once.
+pub record IsStory (steps : Option (ℕ × ℕ)) (each : Bool) (r : Replayed) (text : List ℕ) : Type 0 where
   pub last : Replayed
   pub inputs : HasInputs r.disks r.files r.events last
   pub end : End
   pub ended : HasEnded last end
-  pub parts : HasParts steps last end text
+  pub calls : List Refused
+  pub refuses : HasRefused r last calls
+  pub parts : HasParts steps (kinds_told each calls) last end text
 
 -- It tells the state of a run after so many events, or after all if it has fewer. The first line has the number of events that were taken and the
 -- tick of the state.
@@ -51,9 +60,9 @@ pub record IsStateText (n : ℕ) (r : Replayed) (text : List ℕ) : Type 0 where
   pub is : text ≡ after_line last.taken last.state.tables.ticks ++ rest
 
 -- The story, or if it is asked for the state after so many events.
-abbrev pub TellsOf : Option ℕ → Option (ℕ × ℕ) → Replayed → List ℕ → Type 0
-TellsOf None steps r text = IsStory steps r text
-TellsOf (Some n) steps r text = IsStateText n r text
+abbrev pub TellsOf : Option ℕ → Option (ℕ × ℕ) → Bool → Replayed → List ℕ → Type 0
+TellsOf None steps each r text = IsStory steps each r text
+TellsOf (Some n) steps each r text = IsStateText n r text
 
 -- It is the run of these inputs, before its first event.
 pub record BeginsRun (x : Inputs) (r : Replayed) : Type 0 where
@@ -65,7 +74,7 @@ pub record BeginsRun (x : Inputs) (r : Replayed) : Type 0 where
 pub record IsTold (a : Asked) (x : Inputs) (text : List ℕ) : Type 0 where
   pub run : Replayed
   pub begins : BeginsRun x run
-  pub tells : TellsOf a.at a.steps run text
+  pub tells : TellsOf a.at a.steps a.each run text
 
 -- ---- what is sent
 

@@ -13,7 +13,7 @@ ghost use Rattle.run_inputs.specs.InputFaults.{have_fault};
 
 use crate::running::{tell, tell_at};
 use crate::traces::tell_mistake;
-use crate::words::{steps_in, told_at};
+use crate::words::{steps_in, tells_each, told_at};
 use command_words::{Taken, Tool};
 use host_port::{Channel, Host, HostFault};
 use refusal_words::tell_cause;
@@ -125,7 +125,7 @@ fn told(alloc: Global, inputs: Inputs, words: &Taken<'_>) -> Result<Vec<u8>, Ref
             &mut replay,
             told_at(words),
             steps_in(words),
-            words.is_given("refused"),
+            tells_each(words),
         ) {
             Ok(text) => Ok(text),
             Err(HostFault::Failed) => Err(Refusal::HostFault),
@@ -145,7 +145,7 @@ fn text_of(
 ) -> Result<Vec<u8>, HostFault>
     requires begins { replay.old.taken ≡ 0 }
     requires goes_on { replay.old.over ≡ false }
-    ensures tells { IfOk result (λ text. TellsOf at steps replay.old text.items) }
+    ensures tells { IfOk result (λ text. TellsOf at steps tells_each replay.old text.items) }
 {
     match at {
         Some(events) => tell_at(alloc, replay, events),

@@ -41,7 +41,6 @@ mod telling;
 mod traces;
 mod traps;
 mod unsent;
-mod whereabouts;
 mod words;
 
 pub use command::explain;

@@ -1,11 +1,12 @@
 //! The run that is told: its events are taken, and what comes of each is told.
 
-ghost use Rattle.std.specs.Prelude.{◌≡◌, ◌<◌, ◌≤◌, ◌==◌, ◌||◌, false, true, IfOk, OnOk};
+ghost use Rattle.std.specs.Prelude.{◌≡◌, ◌<◌, ◌≤◌, ◌==◌, ◌||◌, ◌++◌, [], false, true, IfOk, OnOk, Some};
 ghost use Rattle.explain_command.specs.Ends.{EndsAs, HasEnded};
-ghost use Rattle.explain_command.specs.Passing.{HasNoted, TakesNext};
+ghost use Rattle.explain_command.specs.Passing.{HasNoted, HasRefused, TakesNext};
 ghost use Rattle.explain_command.specs.Stories.{IsStateText, IsStory};
 ghost use Rattle.machine.specs.RunEnds.{end_of_go};
 ghost use Rattle.memory_strays.specs.Strays.{nothing_noted};
+ghost use Rattle.refused_calls.specs.Refusals.{refused_in};
 ghost use Rattle.replayed_run.specs.Replayed.{HasInputs, is_at_end};
 ghost use Rattle.xinu_model.specs.Text.{tables_of, text};
 
@@ -16,9 +17,10 @@ use crate::words::is_listed;
 use host_port::HostFault;
 use machine::Go;
 use memory_strays::Strays;
+use refused_calls::RefusedCalls;
 use replayed_run::{Printed, Replay};
 use run_story::Story;
-use std::alloc::Global;
+use std::alloc::{AllocError, Global};
 use xinu_base::{End, Event};
 
 /// The text that tells a run from its first event on, after a list of some of them, and each call that is refused, or each kind once.
@@ -33,11 +35,19 @@ pub(crate) fn tell(
 ) -> Result<Vec<u8>, HostFault>
     requires begins { replay.old.taken ≡ 0 }
     requires goes_on { replay.old.over ≡ false }
-    ensures tells { IfOk result (λ text. IsStory steps replay.old text.items) }
+    ensures tells { IfOk result (λ text. IsStory steps tells_each replay.old text.items) }
 {
-    let mut telling = Telling::new(alloc, tells_each)?;
+    let mut telling = Telling::new(alloc)?;
     let mut strays = Strays::new(alloc, replay.files())?;
-    tell_run(replay, &mut telling, &mut strays, steps)
+    let mut refused = RefusedCalls::new(alloc);
+    tell_run(
+        replay,
+        &mut telling,
+        &mut strays,
+        &mut refused,
+        steps,
+        tells_each,
+    )
 }
 
 /// The text that tells the state after so many events, or after all if the run ends earlier.
@@ -48,7 +58,7 @@ pub(crate) fn tell_at(alloc: Global, replay: &mut Replay, events: u32) -> Result
     requires begins { replay.old.taken ≡ 0 }
     ensures tells { IfOk result (λ text. IsStateText events replay.old text.items) }
 {
-    let mut telling = Telling::new(alloc, false)?;
+    let mut telling = Telling::new(alloc)?;
     telling.story.begin(tables(replay)?.lines());
     take_until(replay, &mut telling, events)?;
     replay.runs();
@@ -76,18 +86,22 @@ fn tell_run(
     replay: &mut Replay,
     telling: &mut Telling,
     strays: &mut Strays,
+    refused: &mut RefusedCalls,
     steps: Option<(u64, u64)>,
+    tells_each: bool,
 ) -> Result<Vec<u8>, HostFault>
     requires begins { replay.old.taken ≡ 0 }
     requires goes_on { replay.old.over ≡ false }
     requires none { strays.old ≡ nothing_noted replay.old.files }
+    requires no_refusal { refused.old ≡ [] }
     ensures strays { IfOk result (λ _. HasNoted replay.old replay.new strays.new) }
-    ensures tells { IfOk result (λ text. IsStory steps replay.old text.items) }
+    ensures refusals { IfOk result (λ _. HasRefused replay.old replay.new refused.new) }
+    ensures tells { IfOk result (λ text. IsStory steps tells_each replay.old text.items) }
 {
     telling.story.begin(tables(replay)?.lines());
-    let end = take_events(replay, telling, strays, steps)?;
+    let end = take_events(replay, telling, strays, refused, steps)?;
     tell_unsent(&mut telling.story, replay.state())?;
-    Ok(telling.text(replay, end, steps)?)
+    Ok(telling.text(replay, refused, tells_each, end, steps)?)
 }
 
 // Takes the events until the run ends.
@@ -96,17 +110,21 @@ fn take_events(
     replay: &mut Replay,
     telling: &mut Telling,
     strays: &mut Strays,
+    refused: &mut RefusedCalls,
     steps: Option<(u64, u64)>,
 ) -> Result<End, HostFault>
     requires begins { replay.old.taken ≡ 0 }
     requires goes_on { replay.old.over ≡ false }
     requires none { strays.old ≡ nothing_noted replay.old.files }
+    requires no_refusal { refused.old ≡ [] }
     ensures strays { IfOk result (λ _. HasNoted replay.old replay.new strays.new) }
+    ensures refusals { IfOk result (λ _. HasRefused replay.old replay.new refused.new) }
     ensures inputs { IfOk result (λ _. HasInputs replay.old.disks replay.old.files replay.old.events replay.new) }
     ensures ended { IfOk result (λ end. HasEnded replay.new end) }
 {
     while let Some(event) = replay.next() {
         telling.note(event, replay, strays);
+        note_refused(event, replay, refused)?;
         match take_event(replay, event, telling, steps)? {
             Go::Goes => {}
             Go::Done => return Ok(End::Done),
@@ -115,6 +133,13 @@ fn take_events(
     }
     replay.runs();
     Ok(End::Schedule)
+}
+
+// Notes the calls that are refused in the event that comes next.
+fn note_refused(event: Event, replay: &Replay, refused: &mut RefusedCalls) -> Result<(), AllocError>
+    ensures noted { OnOk result (refused.new ≡ refused.old ++ refused_in (Some event) replay.now.taken replay.now.state) }
+{
+    refused.note(event, replay.state(), replay.taken())
 }
 
 // Takes the event that comes next, and tells what came of it: nothing of a step that prints nothing, unless it is listed.

@@ -1,6 +1,7 @@
 //! What is told of a run so far: the story, and the list of events.
 
 ghost use Rattle.std.specs.Prelude.{◌≡◌, ◌<◌, ◌++◌, ℕ, List, [], Some, None, IfOk};
+ghost use Rattle.explain_command.specs.Refusals.{AreRefusals, kinds_told};
 ghost use Rattle.explain_command.specs.Stories.{HasParts};
 ghost use Rattle.memory_strays.specs.Strays.{note, note_event};
 ghost use Rattle.run_story.specs.Endings.{after_line};
@@ -12,7 +13,7 @@ use crate::happenings::Happening;
 use crate::left::{head_of, left_text, process_text};
 use crate::listing::add_changes;
 use crate::reasons::add_reason;
-use crate::refusals::Refusals;
+use crate::refusals::refused_text;
 use crate::sights::Sight;
 use crate::states::{add_lists, add_process, add_stack};
 use crate::steps::add_step;
@@ -22,6 +23,7 @@ use crate::traps::{add_trap, add_trap_place};
 use crate::words::number_after;
 use memory_strays::Strays;
 use printed_runs::{PROCESSES, Text};
+use refused_calls::RefusedCalls;
 use replayed_run::Replay;
 use run_story::{Loops, Story};
 use std::alloc::{AllocError, Global};
@@ -34,7 +36,6 @@ pub(crate) struct Telling {
     alloc: Global,
     pub(crate) story: Story,
     strayed: Text,
-    refusals: Refusals,
     loops: Loops,
     listing: Text,
     /// What was seen ahead of the event in which the kernel panicked.
@@ -42,23 +43,22 @@ pub(crate) struct Telling {
 }
 
 impl Telling {
-    /// Of no event. Each call that is refused is to be told, or each kind once.
+    /// Of no event.
     ///
     /// # Errors
     /// Out of memory.
-    pub(crate) fn new(alloc: Global, tells_each: bool) -> Result<Telling, AllocError> {
+    pub(crate) fn new(alloc: Global) -> Result<Telling, AllocError> {
         Ok(Telling {
             alloc,
             story: Story::new(alloc),
             strayed: Text::new(alloc),
-            refusals: Refusals::new(alloc, tells_each),
             loops: Loops::new(alloc)?,
             listing: Text::new(alloc),
             panicked: None,
         })
     }
 
-    /// Notes the event that comes next: a stray, which is told if it is the first of its kind, a call that is refused, and where a process is.
+    /// Notes the event that comes next: a stray, which is told if it is the first of its kind, and where a process is.
     pub(crate) fn note(&mut self, event: Event, replay: &Replay, strays: &mut Strays)
         ensures notes { strays.new ≡ note_event (Some event) replay.now.taken replay.now.state strays.old }
     {
@@ -71,7 +71,6 @@ impl Telling {
                 &self.story,
                 replay.files(),
             );
-            self.refusals.note(replay);
             note_place(&mut self.loops, replay);
         }
     }
@@ -113,23 +112,27 @@ impl Telling {
         self.panicked = Some(*seen);
     }
 
-    /// The list, if one is asked for, and the story after it, if the run ended so: of who is left also where it is.
+    /// The list, if one is asked for, and the story after it, if the run ended so: of refused calls each, or each kind once, and of who is left also where it is.
     ///
     /// # Errors
     /// Out of memory, also if it ran out before.
     pub(crate) fn text(
         &self,
         replay: &Replay,
+        refused: &RefusedCalls,
+        tells_each: bool,
         end: End,
         steps: Option<(u64, u64)>,
     ) -> Result<Vec<u8>, AllocError>
-        ensures parts { IfOk result (λ text. HasParts steps replay.now end text.items) }
+        ensures parts { IfOk result (λ text. HasParts steps (kinds_told tells_each refused.now) replay.now end text.items) }
     {
         let mut told = Vec::new(self.alloc);
         told.extend_from_slice(self.list_asked(steps).as_bytes())?;
         push_end(&mut told, replay, end, self.panicked)?;
-        let traps = self.traps(replay.files())?;
+        let traps = self.traps()?;
         told.extend_from_slice(traps.as_bytes())?;
+        let refusals = self.refusals(replay, refused, tells_each)?;
+        told.extend_from_slice(refusals.as_slice())?;
         told.extend_from_slice(head_of(replay).as_bytes())?;
         let left = left_text(self.alloc, replay, &self.story)?;
         told.extend_from_slice(left.as_slice())?;
@@ -148,14 +151,31 @@ impl Telling {
         }
     }
 
-    // The traps, the strays and the calls that were refused.
-    fn traps(&self, files: &[Vec<u8>]) -> Result<String, AllocError> {
+    // The traps and the strays.
+    fn traps(&self) -> Result<String, AllocError> {
         let mut text = Text::new(self.alloc);
         text.note(self.listing.is_whole());
         self.story.tell_traps(&mut text);
         text.add(&self.strayed);
-        self.refusals.tell(&mut text, &self.story, files);
         text.whole()
+    }
+
+    // What is told of the calls that were refused: each, or each kind once.
+    fn refusals(
+        &self,
+        replay: &Replay,
+        refused: &RefusedCalls,
+        tells_each: bool,
+    ) -> Result<Vec<u8>, AllocError>
+        ensures told { IfOk result (λ text. AreRefusals (kinds_told tells_each refused.now) text.items) }
+    {
+        refused_text(
+            self.alloc,
+            refused.as_slice(),
+            tells_each,
+            &self.story,
+            replay.files(),
+        )
     }
 
     // What is told after who is left.

@@ -24,6 +24,13 @@ pub(crate) fn told_at(words: &Taken<'_>) -> Option<u32>
     }
 }
 
+/// Whether each refused call is told, or each kind once.
+pub(crate) fn tells_each(words: &Taken<'_>) -> bool
+    ensures each { result ≡ (asked_in (taken_words words.now)).each }
+{
+    words.is_given("refused")
+}
+
 // A number of 32 bits.
 fn small(number: u64) -> Option<u32>
     ensures small { result ≡ specs.small number }

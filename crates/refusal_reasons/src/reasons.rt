@@ -128,6 +128,8 @@ pub enum Reason {
     ReplacementTooLong,
     /// The pool has no free buffer, which is never so in a sound state.
     NoFreeBuffer,
+    /// The semaphore on which the process waited was deleted.
+    SemaphoreDeleted,
     /// The port was reset, deleted or made anew since the call began.
     PortRenewed,
     /// The port has no message, which is never so in a sound state.

@@ -74,6 +74,7 @@ impl Reason {
             Reason::PrefixTooLong => "the prefix is longer than 31 bytes",
             Reason::ReplacementTooLong => "the replacement is longer than 31 bytes",
             Reason::NoFreeBuffer => "the pool has no free buffer",
+            Reason::SemaphoreDeleted => "the semaphore was deleted meanwhile",
             Reason::PortRenewed => "the port was reset, deleted or made anew meanwhile",
             Reason::NoMessage => "the port has no message",
             Reason::DiskRefused => "the disk refused it when its turn came",
