@@ -22,7 +22,7 @@ def overview():
     first = ["new first", "run examples/hello/hello.c", "why examples/mistakes/deadlock.c", "term examples/shell/shell.c"]
     lines = ["Runs programs on Xinu, and tells of it.", "", *(f"    xinu {line}" for line in first), "", "Commands:", ""]
     lines += [f"    {name:<9} {purpose}" for name, (purpose, _) in COMMANDS.items()]
-    return "\n".join([*lines, "", "xinu help COMMAND shows its examples and options. docs/XINU_COMMAND.md is the page."])
+    return "\n".join([*lines, "", "xinu help COMMAND shows its examples and options. sdk/XINU_COMMAND.md is the page."])
 
 
 def show_help(name, commands):
