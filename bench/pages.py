@@ -29,7 +29,7 @@ MADE = {"out/xinu_run", "web/out/xinu.html", "sum.s", "steps.txt", "check.txt", 
 
 def pages():
     """The paths of the pages, from the top."""
-    found = ["README.md", "CHANGELOG.md", "crates/README.md"]
+    found = ["README.md", "CHANGELOG.md", "crates/README.md", "crates/XINU.md"]
     for folder in ("docs", "sdk", "examples", "labs", "web", "bench", "changes"):
         found += sorted(glob.glob(os.path.join(folder, "**", "*.md"), recursive=True))
     return found
