@@ -5,7 +5,8 @@ ghost use Rattle.asm_syntax.specs.Statements as spec;
 
 use rv_isa::{Form, word_with};
 
-/// The two words that load a number: `lui` of its upper 20 bits, rounded, and `addi` of the lower 12 as a signed number.
+/// The two words that load a number into register `rd`, which is below 32: `lui` of its upper 20 bits, rounded, and `addi` of the lower 12
+/// as a signed number.
 pub fn load(rd: u8, number: u32) -> (u32, u32)
     requires register { rd < 32 }
     ensures words { result.0 ∷ (result.1 ∷ []) ≡ spec.load rd number }
@@ -17,7 +18,7 @@ pub fn load(rd: u8, number: u32) -> (u32, u32)
     )
 }
 
-/// A number as a word, in two's complement.
+/// A number from -2147483648 to 4294967295 as a word, in two's complement.
 pub fn word_of(number: i64) -> u32
     requires low { negsuc 2147483647 ≤ℤ number }
     requires high { number ≤ℤ pos 4294967295 }

@@ -4,16 +4,8 @@
 //! which operands each takes), `Values` (of registers, calls and other operands) and `Statements`, whose `line_of` is the line that bytes
 //! write. Instructions and their mnemonics are those of the table in `rv_isa`.
 //!
-//! | Call | Promise |
-//! |---|---|
-//! | [`first_label`] | `label`: the line is this label and the line that is left; `None` if and only if it begins with none |
-//! | [`statement_in`] | `statement`: the statement of a line without labels; `proper`: its registers are below 32, a text in it stands for bytes |
-//! | [`word_in`], [`operands_in`] | `word`: the word of a line without labels, and the line of its operands; `operands`: the first four of these |
-//! | [`meaning_of`], [`register_of`], [`call_of`] | `meaning`, `register`, `call`: what a word, a name of a register or a name of a call stands for |
-//! | [`next_byte`] | `byte`: the bytes of a text are its answer and those of the text that is left |
-//! | [`load`], [`word_of`] | the two words that load a number; a number as a word in two's complement |
-//!
-//! A line is read where it lies; nothing is copied and no memory is taken.
+//! [`first_label`] cuts a label off a line, and [`statement_in`] reads what is left once there are no more. A line is read where it lies;
+//! nothing is copied and no memory is taken.
 #![tactic(auto)]
 
 mod calls;

@@ -23,7 +23,7 @@ use crate::statements::{HeaderField, Statement};
 use crate::tokens::{Token, next_token};
 use crate::words::is_name;
 
-/// The first label of a line, and the line after its colon. There is none if the line doesn't begin with one.
+/// The first label of a line, and the line after its colon. `None` if and only if the line doesn't begin with a label.
 pub fn first_label(line: &[u8]) -> Option<(&[u8], &[u8])>
     ensures label { MatchOption result (spec.line_of line.now ≡ spec.unlabelled (tokens_of line.now)) (λ cut. spec.line_of line.now ≡ spec.with_label cut.0.now (spec.line_of cut.1.now)) }
     ensures said { MatchOption result (spec.said_line (tokens_of line.now) ≡ spec.said (tokens_of line.now)) (λ cut. spec.said_line (tokens_of line.now) ≡ spec.said_line (tokens_of cut.1.now)) }
@@ -35,7 +35,7 @@ pub fn first_label(line: &[u8]) -> Option<(&[u8], &[u8])>
     Some((name, after))
 }
 
-/// The statement of a line without labels.
+/// The statement of a line without labels. Registers in it are below 32, and a text in it stands for bytes.
 pub fn statement_in(line: &[u8]) -> Statement<'_>
     ensures statement { seen_statement result ≡ spec.statement_of (tokens_of line.now) }
     ensures proper { IsProper result }
@@ -46,7 +46,8 @@ pub fn statement_in(line: &[u8]) -> Statement<'_>
     }
 }
 
-/// The word of a line without labels, and the line after it, if a blank or nothing separates them.
+/// The word of a line without labels, and the line of its operands after it. `None` if and only if the line doesn't begin with a word that
+/// can name an instruction or a directive, or if neither a blank nor the end of the line follows the word.
 pub fn word_in(line: &[u8]) -> Option<(&[u8], &[u8])>
     ensures word { MatchOption result (spec.said (tokens_of line.now) ≡ None) (λ cut. spec.said (tokens_of line.now) ≡ Some (cut.0.now, tokens_of cut.1.now)) }
 {

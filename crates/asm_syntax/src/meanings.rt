@@ -45,7 +45,7 @@ pub enum Meaning {
     DotStack,
 }
 
-/// The meaning of a word.
+/// The meaning of a word. `None` if and only if it has none.
 pub fn meaning_of(word: &[u8]) -> Option<Meaning>
     ensures meaning { MatchOption result (spec.meaning_of word.now ≡ None) (λ meaning. spec.meaning_of word.now ≡ Some (seen_meaning meaning)) }
     ensures room { IfSome result HasRoom }

@@ -29,7 +29,8 @@ pub enum Operand<'a> {
     Text(&'a [u8]),
 }
 
-/// The first four operands of those that commas separate. Each word takes at most three.
+/// The first four operands of those that commas separate. There may be none, and each word takes at most three. `None` if and only if the
+/// line has anything but such operands.
 pub fn operands_in(line: &[u8]) -> Option<ArrayVec<Operand<'_>, 4>>
     ensures operands { MatchOption result (spec.operands_of (solid (tokens_of line.now)) ≡ None) (λ operands. first_four (spec.operands_of (solid (tokens_of line.now))) ≡ Some (map seen_operand operands.items)) }
 {

@@ -3,8 +3,9 @@
 ghost use Rattle.std.specs.Prelude.{◌≡◌, ◌<◌, [], length, is_some, Some, None, MatchOption, IfSome};
 ghost use Rattle.asm_syntax.specs.Texts as spec;
 
-/// The first byte that a text stands for, and the text after it. There is none if the text doesn't begin with printable ASCII or with
-/// a backslash and `n`, `0`, `"` or `\`.
+/// The first byte that a text stands for, and the text after it, which stands for the others. The text isn't empty. `None`, and the text
+/// stands for no bytes, if it begins neither with a printable ASCII character other than a backslash nor with a backslash and `n`, `0`, `"`
+/// or `\`.
 pub fn next_byte(text: &[u8]) -> Option<(u8, &[u8])>
     requires something { 0 < length text.now }
     ensures byte { MatchOption result (spec.text_bytes text.now ≡ None) (λ cut. spec.text_bytes text.now ≡ spec.byte_before (Some cut.0) (spec.text_bytes cut.1.now)) }

@@ -44,7 +44,8 @@ pub(crate) fn is_within(low: u8, high: u8, b: u8) -> bool
     low <= b && b <= high
 }
 
-/// The register of a name: `x` and its number, or its name in the calling convention.
+/// The number, below 32, of the register of a name: `x` and the number, or the register's name in the calling convention. `None` if and
+/// only if no register has the name.
 pub fn register_of(name: &[u8]) -> Option<u8>
     ensures register { result ≡ values.register_of name.now }
     ensures small { IfSome result (λ n. n < 32) }

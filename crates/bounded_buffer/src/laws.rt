@@ -22,14 +22,14 @@ pub fn the_texts_make_the_images()
     ensures consumer { IsSourceOf consumer_text (image_of 96 (words_in consumer ++ 0 ∷ 0 ∷ [])) }
 {}
 
-/// The programs boot, on any disks.
+/// The programs boot, on any disks: what is said of their runs is said of some.
 pub fn the_programs_boot()
     ensures boots { (disks : Disks) → (start : Xinu) × (boot_on disks buffer_images ≡ Boots start) }
 {}
 
-/// At each moment of each run of the two, on any disks, the items in the buffer are those that were put and not taken, in order, and at most two;
-/// the item that the consumer loads is the one whose number is how many it has taken; and both processes are alive. So it is by the lines
-/// `call P signal 5` and `call P signal 4` of a transcript.
+/// At each moment of each run of the two, on any disks, no item is lost, doubled or out of order: the items in the buffer are those that
+/// were put and not taken, in order, and at most two; the item that the consumer loads is the one whose number is how many it has taken;
+/// and both processes are alive. So it is by the lines `call P signal 5` and `call P signal 4` of a transcript.
 pub fn no_item_is_lost()
     ensures moment { (disks : Disks) (start now : Xinu) (ms : List Moment) → AreSoundDisks disks → boot_on disks buffer_images ≡ Boots start →
         LeadTo start ms now → IsInOrder (put_in ms) (taken_in ms) now }

@@ -12,7 +12,7 @@ use std::alloc::Global;
 use std::marker::Model;
 use xinu_base::{NoMemory, PoolId, Sem};
 
-/// The buffer pools.
+/// The buffer pools, of which at most twenty are made. A clone is equal.
 #[derive(Clone)]
 pub struct Pools {
     // A place for each pool, the made ones first.
@@ -63,14 +63,14 @@ impl Pools {
         self.made == other.made && are_equal(&self.pools[..self.made], &other.pools[..other.made])
     }
 
-    /// The number of the next pool. `None` if and only if all pools are made.
+    /// The number of the next pool. `None` if and only if all twenty are made.
     pub fn next_pool(&self) -> Option<PoolId>
         ensures next { result ≡ next_number self.now }
     {
         PoolId::from_word(self.made as u32)
     }
 
-    /// How many pools are made.
+    /// How many pools are made, at most twenty.
     pub fn count(&self) -> usize
         ensures count { result ≡ length self.now }
         ensures few { result ≤ most_pools }
@@ -78,7 +78,7 @@ impl Pools {
         self.made
     }
 
-    /// Whether one of the `bytes` addresses from `base` on is in a pool.
+    /// Whether one of the `bytes` addresses from `base` on is in the memory of a pool.
     pub fn meets(&self, base: u32, bytes: u32) -> bool
         ensures meets { result ≡ meets_pool base bytes self.now }
     {
@@ -92,7 +92,10 @@ impl Pools {
     }
 
     /// Makes a pool of `number` buffers of `size` bytes, each after a word for the pool's number, in the memory from `base` on. All
-    /// buffers are free, the lowest first.
+    /// buffers are free, the lowest first. The pool comes after the others, and its number is answered.
+    ///
+    /// Fewer than twenty pools are made. `size` is at most 8192 and `number` at most 2048, the memory is in RAM, and `base` and `size` are
+    /// multiples of 4.
     pub fn make(&mut self, base: u32, size: u32, number: u32, semaphore: Sem) -> PoolId
         requires room { length self.old < most_pools }
         requires size { size ≤ 8192 }
@@ -122,7 +125,7 @@ impl Pools {
         }
     }
 
-    /// The size of the buffers of pool `i` in bytes.
+    /// The size of the buffers of pool `i`, which is made, in bytes.
     pub fn size_of(&self, i: PoolId) -> u32
         requires made { i < length self.now }
         ensures size { result ≡ (pool_at self.now i).size }
@@ -130,7 +133,7 @@ impl Pools {
         self.pools[i.index()].size()
     }
 
-    /// The memory of pool `i`: where it begins, and how many bytes it has.
+    /// The memory of pool `i`, which is made: where it begins, and how many bytes it has.
     pub fn memory_of(&self, i: PoolId) -> (u32, u32)
         requires made { i < length self.now }
         ensures base { result.0 ≡ (pool_at self.now i).base }
@@ -139,7 +142,7 @@ impl Pools {
         self.pools[i.index()].memory()
     }
 
-    /// How many buffers of pool `i` are free.
+    /// How many buffers of pool `i`, which is made, are free: at most 2048.
     pub fn free_count(&self, i: PoolId) -> u32
         requires made { i < length self.now }
         ensures count { result ≡ length (pool_at self.now i).free }
@@ -148,7 +151,7 @@ impl Pools {
         self.pools[i.index()].free_count()
     }
 
-    /// How many buffers of pool `i` are held.
+    /// How many buffers of pool `i`, which is made, are held.
     pub fn held(&self, i: PoolId) -> u32
         requires made { i < length self.now }
         ensures held { result ≡ held_in (pool_at self.now i) }
@@ -156,7 +159,8 @@ impl Pools {
         self.pools[i.index()].held()
     }
 
-    /// The k-th free buffer of pool `i`, the one that was freed last first. `None` if and only if fewer than k + 1 are free.
+    /// The k-th free buffer of pool `i`, which is made, the one that was freed last first. `None` if and only if fewer than k + 1 are
+    /// free.
     pub fn free_at(&self, i: PoolId, k: usize) -> Option<u32>
         requires made { i < length self.now }
         ensures free { result ≡ slice_get (pool_at self.now i).free k }
@@ -164,8 +168,8 @@ impl Pools {
         self.pools[i.index()].free_at(k)
     }
 
-    /// Takes the buffer of pool `i` that was freed last, at first the lowest, and answers its address. The word before it is in RAM,
-    /// and is the caller's to write.
+    /// Takes the buffer of pool `i` that was freed last, at first the lowest, and answers its address. One is free, and nothing else
+    /// changes. The word before it is in RAM, and is the caller's to write.
     pub fn get_part(&mut self, i: PoolId) -> u32
         requires free { 0 < length (pool_at self.old i).free }
         ensures first { (pool_at self.old i).free ≡ result ∷ drop 1 (pool_at self.old i).free }
@@ -177,8 +181,8 @@ impl Pools {
         pool.take()
     }
 
-    /// Gives back the buffer at an address, and answers its pool. `None`, and nothing changes, if and only if no held buffer has the
-    /// address.
+    /// Gives back the buffer at an address, and answers its pool, of which it is then the first free buffer. The pool is made, and had
+    /// fewer than 2048 free ones. `None`, and nothing changes, if and only if no held buffer has the address.
     pub fn free(&mut self, a: u32) -> Option<PoolId>
         ensures holder { result ≡ holder a self.old }
         ensures pools { self.new ≡ after_free result a self.old }

@@ -4,10 +4,6 @@
 //! what a number is. `specs/Reading.antt` reads the arguments from the left by a table of options; `specs/RunArgs.antt`, `specs/AsmArgs.antt`,
 //! `specs/SoakArgs.antt`, `specs/CheckArgs.antt` and `specs/DiskArgs.antt` have the tables, and `specs/Commands.antt` the commands.
 //!
-//! | Call | Promise |
-//! |---|---|
-//! | [`command_of`] | `command`: an answered command is the one that the definition gives; `no_command`: the answer is no command only if the definition gives none. `NoMemory` is free |
-//!
 //! One law, by induction over the arguments, says that clap's matches are that reading, for every table whose options have other names than
 //! the positional argument (`proofs/Law.antt`, `proofs/Program.antt`). It serves the commands and the actions of `disk`. The crate depends
 //! on `clap`, and on `lfs_layout` for what can be the name of a file on a disk.

@@ -3,11 +3,8 @@
 //! Each command has a table of its options (`specs/Tools.antt`), which says of an option its name, what its value has to be, if it takes one, and when
 //! it is to be given. Words are read from the left by the table, as those of `run` are (`reading` of `command_line`); then what was taken is judged by it.
 //!
-//! | Call | Promise |
-//! |---|---|
-//! | [`words_of`] | `words`: what the words say by the table of the command, or the first thing that is wrong with them (`words_of` in `specs/Words.antt`); `some`, `few`: one to eight images. Running out of memory is free |
-//! | [`Taken::value`], [`Taken::is_given`] | `value`, `given`: the value of an option, and whether it was given |
-//! | [`Taken::number`], [`Taken::span`] | `number`, `span`: the number that an option has as its value, and the two numbers of a value `A..B` |
+//! [`words_of`] is the call, and `words_of` in `specs/Words.antt` its definition. It answers a [`Taken`], which is asked for the values of
+//! the options. Running out of memory is free.
 //!
 //! `clap` doesn't read these words, since no clause of it says which word an error is about.
 #![tactic(auto)]

@@ -28,7 +28,7 @@ pub struct Taken<'a> {
 }
 
 impl<'a> Taken<'a> {
-    /// The value of an option, if it was given.
+    /// The value of an option, empty if it takes none. `None` if and only if it wasn't given.
     pub fn value(&self, name: &str) -> Option<&'a str>
         ensures value { option_map (λ s. s.now) result ≡ reading.option_value name.now (taken_words self.now) }
     {
@@ -42,14 +42,15 @@ impl<'a> Taken<'a> {
         self.value(name).is_some()
     }
 
-    /// The number that an option has as its value.
+    /// The number that an option has as its value. `None` if and only if it wasn't given, or its value isn't one to ten decimal digits.
     pub fn number(&self, name: &str) -> Option<u64>
         ensures number { result ≡ option_and_then values.number_in (reading.option_value name.now (taken_words self.now)) }
     {
         number_in(self.value(name)?)
     }
 
-    /// The numbers that an option has as its value `A..B`.
+    /// The two numbers that an option has as its value `A..B`. `None` if and only if it wasn't given, or its value isn't two such numbers,
+    /// each of one to ten decimal digits.
     pub fn span(&self, name: &str) -> Option<(u64, u64)>
         ensures span { result ≡ option_and_then values.span_in (reading.option_value name.now (taken_words self.now)) }
     {

@@ -17,8 +17,8 @@ use std::alloc::{AllocError, Global};
 /// The most images of a run.
 const MOST_IMAGES: usize = 8;
 
-/// What the words of a command say, or what is wrong with them: the first that can't be read, from the left; else a value, an option that is
-/// missing or has no place, or the images, of which there are one to eight.
+/// What the words of a command say by the table of its options, or the first thing that is wrong with them: a word that can't be read, from
+/// the left; else a value, an option that is missing or has no place, or the images, of which there are one to eight.
 ///
 /// # Errors
 /// Out of memory.

@@ -3,9 +3,7 @@
 //! So a program in C that has a console of its own notes the bytes that are typed, the calls on it and the bytes that it sends, and asks
 //! what the proved console answers to them: the first answer that differs is the first mistake. `examples/console_in_c` has such a program.
 //!
-//! | Call | Promise |
-//! |---|---|
-//! | [`console_answers`] | `answered`: the answers are the console's (`answers_of` in `specs/Answers.antt`); `ranges`: `NO_ROOM` if and only if there isn't an answer for each call; `stays`: then nothing is written, nor if memory runs out |
+//! [`console_answers`] is the call, and `specs/Answers.antt` has what the console answers.
 //!
 //! The archive needs `rattle_alloc` and `rattle_dealloc`, which the toolchain's C library has.
 #![tactic(auto)]
@@ -23,14 +21,17 @@ use tty_driver::Tty;
 
 /// All calls were answered.
 pub const ANSWERED: u32 = 0;
-/// There isn't an answer for each call.
+/// There aren't as many answers as calls.
 pub const NO_ROOM: u32 = 1;
 /// Out of memory.
 pub const NO_MEMORY: u32 = 2;
 
 /// Makes these calls, one after another, on a console in cooked mode with echo on, and writes what each answers.
 ///
-/// There are as many answers as calls. What each kind of call answers is said at [`ConsoleCall::kind`].
+/// There must be as many answers as calls. What each kind of call answers is said at [`ConsoleCall::kind`].
+///
+/// [`ANSWERED`] if all calls were answered. [`NO_ROOM`] if and only if there aren't as many answers as calls, and [`NO_MEMORY`] if memory
+/// runs out; then nothing is written.
 #[unsafe(no_mangle)]
 pub extern "C" fn console_answers(alloc: Global, calls: &[ConsoleCall], answers: &mut [i64]) -> u32
     ensures answered { (result ≡ 0) → (answers.new ≡ answers_of first_console calls.now) }

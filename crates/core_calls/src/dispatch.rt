@@ -25,7 +25,10 @@ use crate::semaphore_calls::{semcount, semcreate, semdelete, semreset, signal, s
 use kernel_state::{Creation, KernelState, answer_released, half, signed};
 use xinu_base::{Call, Next, Rest, SYSERR, State, each_call};
 
-/// Begins a call on processes or ports.
+/// Begins a call on processes or ports: what comes of it is what the row of its number gives.
+///
+/// Nothing was done yet in this event, the current process isn't the null process, and the state is sound (`kernel_state/specs/Calling`).
+/// The number of each port can rise: it is below 4294967295.
 #[tactic(auto, unfolding(xinu_model::specs::Calls::calls))]
 pub fn begin(k: &mut KernelState, call: Call) -> Next
     requires core { (is_of family.Processes call.number || is_of family.Ports call.number) ≡ true }
@@ -53,6 +56,9 @@ pub fn begin(k: &mut KernelState, call: Call) -> Next
 
 /// Does what is left of the current process's call: the end of a self-suspension, a buffer, a message to or from a port, or the receipt of
 /// a message.
+///
+/// Something is left of the call, and it isn't a call on a device. As when a call begins, nothing was done yet in this event, the current
+/// process isn't the null process, and the state is sound.
 pub fn go_on(k: &mut KernelState) -> Next
     requires calling { IsCalling k.old.call }
     requires core { is_on_device (process_at k.old.call.state.tables k.old.call.state.tables.current).rest ≡ false }
@@ -69,7 +75,8 @@ pub fn go_on(k: &mut KernelState) -> Next
     }
 }
 
-/// A tick of the clock, with its own reschedules.
+/// A tick of the clock, with its own reschedules. Nothing was done yet in this event, the current process runs, and the ticks don't wrap:
+/// they are below 4294967295.
 pub fn tick(k: &mut KernelState)
     requires start { IsStart k.old.call }
     requires runs { state_at k.old.call.state.tables k.old.call.state.tables.current ≡ State.Current }

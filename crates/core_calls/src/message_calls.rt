@@ -1,4 +1,4 @@
-//! The calls on messages, 21 to 24 (book, chapter 8, `send.c`, `receive.c`, `recvclr.c`, `recvtime.c`).
+//! The calls on messages, 21 to 24, and what is left of a receipt (book, chapter 8, `send.c`, `receive.c`, `recvclr.c`, `recvtime.c`).
 //!
 //! Each is the row of its number in the abstract machine's table.
 

@@ -1,4 +1,4 @@
-//! The calls on processes, 1 and 3 to 9 (book, chapters 5 and 6, `resume.c`, `suspend.c`, `kill.c`, `chprio.c`).
+//! The calls on processes, 1 and 3 to 9, and what is left of one (book, chapters 5 and 6, `resume.c`, `suspend.c`, `kill.c`, `chprio.c`).
 //!
 //! Each is the row of its number in the abstract machine's table. A word that names no process is refused.
 
@@ -126,7 +126,8 @@ pub(crate) fn getprio(k: &KernelState, word: u32) -> Next
     }
 }
 
-/// Call 9, and the end of a process that was trapped or returned from its first function: the caller dies.
+/// Call 9, and the end of a process that was trapped or returned from its first function: the caller dies. It isn't the null process, and
+/// nothing was done yet in this event.
 pub fn exit(k: &mut KernelState) -> Next
     requires start { IsStart k.old.call }
     requires not_null { k.old.call.state.tables.current ≢ 0 }

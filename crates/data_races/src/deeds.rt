@@ -1,4 +1,4 @@
-//! What an event does with memory, against what it changes.
+//! What an instruction does with memory, against what it changes and what it depends on.
 
 ghost use Rattle.std.specs.Prelude.{◌≡◌, ◌≢◌, ◌+◌, ◌<◌, ◌≤◌, ℕ, List, length, slice_index, false, true};
 ghost use Rattle.std.specs.List.{Contains};

@@ -1,4 +1,4 @@
-//! A run, and what a detector sees of it.
+//! A run, and its history, which is what a detector sees of it.
 
 ghost use Rattle.std.specs.Prelude.{◌≡◌, ℕ, List, [], Some, None};
 ghost use Rattle.happens_before.specs.Histories.{IsHistory, Moment};

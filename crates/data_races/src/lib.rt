@@ -5,12 +5,6 @@
 //!
 //! Nothing of it runs: each law is the contract of a function that does nothing, proved for all states and lists of events.
 //!
-//! | Module | Its laws |
-//! |---|---|
-//! | [`deeds`] | an instruction changes no byte but those that it stores to, and depends on none but those that it fetches and loads |
-//! | [`histories`] | each run has a history, and each history is that of a run; a plain step orders nothing |
-//! | [`races`] | what a detector tells of the history of a run are its races, and it tells of each; so if it tells nothing there is none |
-//!
 //! What an event does with memory (`specs/Deeds.antt`):
 //!
 //! | Deed | In which event, by which process |

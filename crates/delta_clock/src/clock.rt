@@ -19,7 +19,7 @@ use queue_table::Lists;
 use std::marker::Model;
 use xinu_base::Pid;
 
-/// The ticks since the start.
+/// The ticks since the start. A clone shows the same.
 #[derive(Clone, Drop)]
 pub struct Clock {
     ticks: u32,
@@ -34,7 +34,7 @@ impl Model for Clock {
 }
 
 impl Clock {
-    /// A clock at the start.
+    /// A clock at the start: no tick has passed. It fits new lists, in which nobody sleeps.
     pub fn new() -> Self
         ensures starts { result ≡ 0 }
         ensures later { WakesLater (replicate 130 []) }
@@ -49,7 +49,7 @@ impl Clock {
         self.ticks == other.ticks
     }
 
-    /// The ticks since the start.
+    /// The ticks since the start, in 64 bits.
     pub fn now(&self) -> u64
         ensures ticks { result ≡ self.now }
     {
@@ -90,7 +90,7 @@ impl Clock {
         lists.insert_delta(p.index(), SLEEPERS, delay);
     }
 
-    /// Takes `p` out of the sleepers. All others wake when they would have.
+    /// Takes `p`, which is a sleeper, out of the sleepers: it is in no list then. All others wake when they would have.
     pub fn cancel(&mut self, lists: &mut Lists, p: Pid)
         requires asleep { place (table.lists lists.old) p ≡ Some 129 }
         requires later { WakesLater (table.lists lists.old) }
@@ -107,8 +107,8 @@ impl Clock {
         unsleep(lists, p);
     }
 
-    /// A tick passes. Those whose tick has come are taken out of the sleepers: they are the answer, in the order in which they lay down
-    /// among equal ticks.
+    /// A tick passes; fewer than 4294967295 have passed before. Those whose tick has come are taken out of the sleepers, and are in no list
+    /// then: they are the answer, in the order in which they lay down among equal ticks.
     pub fn tick(&mut self, lists: &mut Lists) -> ArrayVec<Pid, 64>
         requires few { self.old < 4294967295 }
         requires later { WakesLater (table.lists lists.old) }

@@ -10,12 +10,6 @@
 //! | 3 | the file system | `open`, `control` |
 //! | 4 to 9 | files | all but `open` |
 //!
-//! | Call | Promise |
-//! |---|---|
-//! | `device` | `named`, `known`, `missing`: the device of this number, refused if and only if there is none |
-//! | `kind_of` | `kind`: what it is |
-//! | `offers` | `offers`: whether it offers a call |
-//!
 //! What a call does with a device is the business of the crates above. No call has a condition. The crate depends on `xinu_model`.
 #![tactic(auto)]
 

@@ -9,7 +9,7 @@ use xinu_base::{Dev, Kind, Op};
 #[derive(Clone, Copy, PartialEq, Eq)]
 pub struct NoSuch;
 
-/// The device that a word names.
+/// The device that a word names: the one of this number.
 ///
 /// # Errors
 ///

@@ -17,7 +17,7 @@ use xinu_base::{Pid, SYSERR};
 // The reply to a request that was served well.
 const OK: i32 = 0;
 
-/// The raw disk.
+/// The raw disk. A clone is equal, and takes memory.
 #[derive(Clone)]
 pub struct Disk {
     blocks: Blocks,
@@ -64,7 +64,7 @@ impl Disk {
         self.requests.as_slice() == other.requests.as_slice() && self.blocks.equals(&other.blocks)
     }
 
-    /// How many blocks there are.
+    /// How many blocks there are: 8 to 65,536.
     pub fn blocks(&self) -> u32
         ensures blocks { result ≡ length self.now.blocks }
         ensures least { 8 ≤ result }
@@ -73,7 +73,7 @@ impl Disk {
         self.blocks.count()
     }
 
-    /// The bytes of a block.
+    /// The 512 bytes of block `n`, which the disk has.
     pub fn block(&self, n: u32) -> &[u8]
         requires within { has_block n self.now ≡ true }
         ensures block { result.now ≡ block_at self.now n }
@@ -82,7 +82,7 @@ impl Disk {
         self.blocks.get(n)
     }
 
-    /// A block gets other bytes.
+    /// Block `n`, which the disk has, gets these bytes. Nothing else changes.
     pub fn set_block(&mut self, n: u32, block: &[u8; 512])
         requires within { has_block n self.old ≡ true }
         ensures set { self.new ≡ record self.old { blocks = slice_set self.old.blocks n block.now } }
@@ -90,14 +90,14 @@ impl Disk {
         self.blocks.set(n, block);
     }
 
-    /// The bytes of all blocks.
+    /// The bytes of all blocks, one block after another.
     pub fn bytes(&self) -> &[u8]
         ensures bytes { result.now ≡ concat self.now.blocks }
     {
         self.blocks.bytes()
     }
 
-    /// How many requests wait.
+    /// How many requests wait: at most 64.
     pub fn pending(&self) -> usize
         ensures pending { result ≡ length self.now.requests }
         ensures most { result ≤ 64 }
@@ -112,7 +112,8 @@ impl Disk {
         self.requests.as_slice()
     }
 
-    /// A request, whose bytes are in RAM, goes after the others.
+    /// A request goes after the others. Fewer than 64 requests wait, the disk has the request's block, and the 512 bytes from its address
+    /// on are in RAM.
     pub fn submit(&mut self, r: Request)
         requires room { length self.old.requests < 64 }
         requires within { has_block r.block self.old ≡ true }
@@ -123,8 +124,9 @@ impl Disk {
         self.requests.push(Request { caller, ..r });
     }
 
-    /// Serves the first request, well or badly: then no block changes and nothing is read. `None`, and nothing changes, if and only
-    /// if no request waits.
+    /// Serves the first request and takes it out: its bytes are written to its block, or the block is read. If it is served badly, no block
+    /// changes and nothing is read. The request that is answered has its 512 bytes in RAM. `None`, and nothing changes, if and only if no
+    /// request waits.
     pub fn complete(&mut self, good: bool) -> Option<Done>
         ensures served { option_map (λ done. served_of done self.new) result ≡ raw_completed good self.old }
         ensures disk { self.new ≡ after_completion (raw_completed good self.old) self.old }

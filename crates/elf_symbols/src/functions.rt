@@ -22,7 +22,7 @@ pub struct Place<'a> {
     pub offset: u32,
 }
 
-/// The place of an address: after the function with the greatest address that isn't above it.
+/// The place of an address: after the function with the greatest address that isn't above it, the first of equals.
 ///
 /// `None` if there is no such function, the bytes aren't an ELF file of 32 bits for RISC-V, they have no symbols, or a table of symbols
 /// or strings doesn't lie in the file.

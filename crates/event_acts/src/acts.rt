@@ -38,7 +38,7 @@ impl Doer {
     }
 }
 
-/// The deeds of an event, in their order: each of bytes of RAM.
+/// The deeds of an event, in their order: each of bytes of RAM, and each load or store by one of 64 processes.
 #[derive(Drop)]
 pub struct Acts {
     acts: Vec<Act>,
@@ -57,7 +57,7 @@ impl Model for Acts {
 }
 
 impl Acts {
-    /// None.
+    /// No deeds.
     pub fn new(alloc: Global) -> Acts
         ensures none { result ≡ [] }
     {
@@ -66,7 +66,7 @@ impl Acts {
         }
     }
 
-    /// The deeds.
+    /// The deeds, in their order.
     pub fn as_slice(&self) -> &[Act]
         ensures acts { result.now ≡ self.now }
         ensures within { AllWithin self.now }

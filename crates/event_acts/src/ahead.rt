@@ -78,7 +78,7 @@ pub struct Ahead {
 }
 
 impl Ahead {
-    /// What is kept of a state.
+    /// What is kept of a state ahead of an event.
     pub fn of(k: &KernelState) -> Ahead {
         let current = k.tables.current();
         let rest = k.tables.rest();

@@ -12,9 +12,10 @@ use kernel_state::KernelState;
 use std::alloc::AllocError;
 use xinu_base::{Call, Event, Pid, Rest};
 
-/// Ahead of an event: its deeds that are told by the state ahead of it take the place of those before. Whether more is to be told once the event
-/// was taken, by what is kept of the state ([`Ahead::of`]): not for a step that only executes an instruction, or nothing, and not for an event
-/// that does nothing with memory.
+/// Ahead of an event of this number: its deeds that the state ahead of it tells take the place of those of the event before.
+///
+/// The answer is whether more is to be told once the event was taken, by what is kept of the state ([`Ahead::of`]). That is so for a
+/// completion of the disk with files, and for a step in which a process does more than execute an instruction.
 ///
 /// # Errors
 /// Out of memory.
@@ -92,7 +93,8 @@ fn doer_in(event: u32, ahead: &Ahead) -> Doer {
     }
 }
 
-/// The event was taken: its other deeds come after those that were told ahead of it.
+/// The event of this number was taken: its other deeds come after those that were told ahead of it. They are told by what was kept of the
+/// state ahead of it, and by the state after it.
 ///
 /// # Errors
 /// Out of memory.

@@ -1,4 +1,5 @@
-//! What a refusal leaves, and which answers tell of one.
+//! What a refusal leaves, and which answers tell of one; what those answer who waited on semaphores, ports, the console and the disks; and
+//! when the kernel panics.
 
 ghost use Rattle.std.specs.Prelude.{◌≡◌, ◌≢◌, ◌⊎◌, ◌<◌, ◌≤◌, ℕ, suc, ℤ, Bool, true, false, if◌then◌else◌, nat_le, List, [], ◌∷◌, None, Some, slice_index, ◌++◌, map, take, pos};
 ghost use Rattle.std.specs.List.{AllByRecursion};

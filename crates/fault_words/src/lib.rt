@@ -1,14 +1,7 @@
 //! Faults of assembler in words: which word of the line that has one it is, and what it would have to be.
 //!
-//! Why a text has a fault is a definition over its bytes (`cause_of_fault` in `specs/Reasons.antt`), and so is the line that says it (`told` in
-//! `specs/Texts.antt`).
-//!
-//! | Call | Promise |
-//! |---|---|
-//! | [`cause_of`] | `cause`: why a text has a fault |
-//! | [`tell_fault`] | `told`: the line that says it |
-//!
-//! Running out of memory is free.
+//! [`cause_of`] answers why a text has a fault, and [`tell_fault`] the line that says it. Both are definitions over the bytes of the text:
+//! `cause_of_fault` in `specs/Reasons.antt`, and `told` in `specs/Texts.antt`. Running out of memory is free.
 #![tactic(auto)]
 
 mod answers;

@@ -10,7 +10,7 @@ ghost use Rattle.lfs_layout.specs.Images.{kept_files};
 
 /// The disk holds a file that is judged to be held: exactly one used entry has its name, reading it gives its bytes, and it lies in its
 /// index and data blocks; or it has no entry of its name, if there is to be none. That is what the kernel keeps true of each file at rest,
-/// at each moment.
+/// at each moment (`HasStored` of `file_laws`).
 #[tactic(auto, using(crate::proofs::Held::judged_held))]
 pub fn judged_files_are_held()
     ensures held { (disk texts : List ℕ) (f : FileAtRest) → is_disk disk ≡ true

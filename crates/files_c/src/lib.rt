@@ -1,14 +1,9 @@
 //! The files for C: what they answer to a list of calls, and which files a disk holds, as a power cut left it.
 //!
-//! So a program in C that has files of its own notes the calls on them, and asks what the proved ones answer: the first answer that
-//! differs is the first mistake. And one that writes the same disk asks after each block whether every file is still there, since the power
-//! may be cut at each. `examples/files_in_c` has both.
-//!
-//! | Call | Promise |
-//! |---|---|
-//! | [`file_answers`] | `answered`, `bytes`: the answers are the abstract machine's, and so are the bytes that reads leave (`answers_of`, `bytes_after` in `specs/Answers.antt`); `ranges`: `NO_DISK` if and only if there is no disk of so many blocks, or there isn't an answer for each call; `stays`, `bytes_stay`: then nothing is written, nor if memory runs out |
-//! | [`disk_answers`] | `answered`: the answers are the judgements of `specs/Judging.antt`: of each file whether one entry has its name and the disk's repair keeps it with its bytes; `ranges`: `NO_DISK` if and only if the bytes are no disk of version 2, or there isn't an answer for each file; `stays`: then nothing is written, nor if memory runs out |
-//! | [`judged_files_are_held`], [`judged_files_are_apart`] | laws: the disk has each file that is judged to be held, as the kernel's disk has its files at rest at each moment (`HasStored` in `file_laws/specs/Holds`); no block is in two such files, nor twice in one |
+//! So a program in C that has files of its own notes the calls on them, and asks [`file_answers`] what the proved ones answer: the first
+//! answer that differs is the first mistake. And one that writes the same disk asks [`disk_answers`] after each block whether every file is
+//! still there, since the power may be cut at each. `examples/files_in_c` has both. What the answers are is defined in `specs/Answers` and
+//! `specs/Judging`.
 //!
 //! The engine (`local_files`) wants its blocks from a disk that is empty at first; the loop that serves it is in `src/making.rt`. The
 //! archive needs `rattle_alloc`, `rattle_realloc` and `rattle_dealloc`, which the toolchain's C library has.
@@ -44,6 +39,10 @@ pub const NO_MEMORY: u32 = 2;
 ///
 /// Names and the bytes of writes are taken from `bytes`, and those of reads are put there. There are as many answers as calls. What each
 /// kind of call answers is said at [`FilesCall::kind`].
+///
+/// The result is [`ANSWERED`] if all was answered: then the answers, and the bytes that reads leave, are those of the abstract machine. It
+/// is [`NO_DISK`] if and only if there is no disk of so many blocks, or there isn't an answer for each call, and [`NO_MEMORY`] if memory
+/// runs out. In both cases neither answers nor bytes are written.
 #[unsafe(no_mangle)]
 pub extern "C" fn file_answers(
     alloc: Global,
@@ -77,6 +76,9 @@ pub extern "C" fn file_answers(
 /// these bytes; of one that isn't there, if no entry has its name; else 0.
 ///
 /// The names and bytes of the files lie in `texts`. There are as many answers as files.
+///
+/// The result is [`ANSWERED`] if all was answered. It is [`NO_DISK`] if and only if the bytes are no disk of version 2, or there isn't an
+/// answer for each file, and [`NO_MEMORY`] if memory runs out. In both cases no answer is written.
 #[unsafe(no_mangle)]
 pub extern "C" fn disk_answers(
     alloc: Global,

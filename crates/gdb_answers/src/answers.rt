@@ -17,8 +17,8 @@ use rv_hart::Hart;
 use std::alloc::{AllocError, Global};
 use xinu_base::Pid;
 
-/// The answer to a packet in this state, which is one between two events, if this process is looked at. There is none to a packet that
-/// moves the run or the session.
+/// The answer to a packet in this state, if this process is looked at. `None` if and only if the packet moves the run or the session. The
+/// state is a sound one between two events, and at most 1000000000 ticks came.
 ///
 /// # Errors
 /// Out of memory.

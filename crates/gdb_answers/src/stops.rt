@@ -23,7 +23,8 @@ pub enum Stop {
     End,
 }
 
-/// What is told of a stop of a process.
+/// What is told of a stop of a process: the signal; then the address of the bytes that changed, or that the run is at its beginning or its
+/// end; and the number of the process's thread.
 ///
 /// # Errors
 /// Out of memory.

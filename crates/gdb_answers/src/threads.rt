@@ -12,7 +12,7 @@ use process_waits::{awaited, wake_of};
 use std::alloc::{AllocError, Global};
 use xinu_base::{Pid, State};
 
-/// The process of a thread's number.
+/// The process of a thread's number. `None` if and only if there is no thread of that number.
 pub fn process_of(tables: &KernelTables, thread: u32) -> Option<Pid>
     ensures process { result ≡ spec.process_of tables.now thread }
 {
@@ -41,7 +41,7 @@ fn is_left(tables: &KernelTables, p: Pid) -> bool
     !matches!(tables.process(p).state, State::Free)
 }
 
-/// The current process; if that is the null process, the first other one that is left.
+/// The current process; if that is the null process, the first other one that is left, or the null process if none is.
 pub fn shown_process(tables: &KernelTables) -> Pid
     ensures shown { result ≡ spec.shown_process tables.now }
 {
@@ -125,7 +125,7 @@ fn thread_number(p: Pid) -> [u8; 1]
     [p.index() as u8 + 1]
 }
 
-/// The number of a process's thread, in digits.
+/// The number of a process's thread, in two hexadecimal digits.
 ///
 /// # Errors
 /// Out of memory.

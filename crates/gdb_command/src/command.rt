@@ -25,7 +25,9 @@ use std::io::{Read, Write};
 /// The words of the command.
 const USAGE: &str = "--schedule FILE [--disk0 FILE] [--disk1 FILE] IMAGE ..";
 
-/// Serves packets for the run that the arguments after the program's name ask for, and answers the exit status.
+/// Serves packets for the run that the arguments after the program's name ask for, and answers the exit status. The run is of the inputs
+/// that `run` would fetch, and what is written answers what is read, packet by packet, up to the end of the session or of the input, or to
+/// a fault.
 ///
 /// The status is 0 once the debugger has gone away, ended the session, or closed the input. Else it is the status with which `run` refuses
 /// such arguments and files, and its text is sent on Fault, with a line after it that says it in words: 2 if the arguments aren't those of the

@@ -1,4 +1,4 @@
-//! A law of the definitions.
+//! A law of the definitions: what was framed is read back.
 
 ghost use Rattle.std.specs.Prelude.{ℕ, List, ◌≡◌, ◌++◌};
 ghost use Rattle.gdb_packets.specs.Frames.{frame};

@@ -3,18 +3,10 @@
 //! A packet is `$`, its bytes, `#` and two digits of their sum (`specs/Frames.antt`). `specs/Units.antt` says what an input begins with,
 //! however much of it is at hand; `specs/Commands.antt` is the table of what packets ask for, by the names with which they begin.
 //!
-//! | Call | Promise |
-//! |---|---|
-//! | [`frame`] | `framed`: the packet that says these bytes |
-//! | [`first_unit`] | `unit`: the packet, the answer, the interrupt or the noise with which the input begins, and what comes after it. A packet's bytes are as they were sent |
-//! | [`unescaped`] | `said`: the bytes that a packet says |
-//! | [`command_of`] | `command`: what those bytes ask for |
-//! | [`monitor_words`] | `words`: the words after gdb's `monitor`; `None` if and only if no digits write them |
-//! | [`push_hex`], [`push_word`] | `appended`: two digits for each byte; the eight digits of a word, its lowest byte first |
-//! | [`laws`] | what was framed is read back, whatever comes after it |
+//! [`first_unit`] reads an input, [`command_of`] says what a packet asks for, and [`frame`] makes a packet that is sent.
 //!
-//! Of a packet that isn't whole nothing is lost: the input stays as it is until more of it comes, and a `$` in the midst of a packet begins
-//! another. The crate depends on `xinu_base` for the hexadecimal text of bytes alone.
+//! Of a packet that isn't whole nothing is lost: the input stays as it is until more of it comes, or until it has too many bytes, and a `$`
+//! in the midst of a packet begins another. The crate depends on `xinu_base` for the hexadecimal text of bytes alone.
 #![tactic(auto)]
 
 mod actions;

@@ -37,7 +37,7 @@ pub fn command_of(payload: &[u8]) -> Command
     }
 }
 
-/// The words after gdb's `monitor`, if a packet asks for that and digits write them.
+/// The words after gdb's `monitor`. `None` if and only if the packet doesn't ask for that, or no digits write them.
 ///
 /// # Errors
 /// Out of memory.

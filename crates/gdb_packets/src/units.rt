@@ -31,7 +31,8 @@ pub enum InputUnit<'a> {
     Partial,
 }
 
-/// What an input begins with, and what comes after that.
+/// What an input begins with, and what comes after that. If it begins with nothing, or with a packet that isn't whole yet, all of it comes
+/// after that.
 pub fn first_unit(input: &[u8]) -> (InputUnit<'_>, &[u8])
     ensures unit { spec.first_unit input.now ≡ (seen result.0, result.1.now) }
 {

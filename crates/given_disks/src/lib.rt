@@ -1,13 +1,9 @@
 //! The disks that a machine is given: what their bytes are for the abstract machine, and that they are sound for it.
 //!
-//! No function of this crate has code. It depends on `lfs_layout`, whose `blocks_of` cuts a raw disk into blocks, on `file_laws`, whose
-//! `stored_files` are the files of a clean disk by their names, and on `part_laws`, which says on which disks the machine starts in a sound
-//! state. `specs/Disks` has the disks of a machine by their bytes, and `specs/HeldFiles` says what a disk has of the files of a state.
-//!
-//! | Law | What it says |
-//! |---|---|
-//! | [`given_disks_are_sound`] | a raw disk and a clean disk of version 2 are disks on which the machine starts in a sound state |
-//! | [`clean_disks_hold_their_files`] | a clean disk of version 2 holds the files that it has before a file is opened |
+//! No function of this crate has code: [`given_disks_are_sound`] and [`clean_disks_hold_their_files`] are laws. It depends on `lfs_layout`,
+//! whose `blocks_of` cuts a raw disk into blocks, on `file_laws`, whose `stored_files` are the files of a clean disk by their names, and on
+//! `part_laws`, which says on which disks the machine starts in a sound state. `specs/Disks` has the disks of a machine by their bytes, and
+//! `specs/HeldFiles` says what a disk has of the files of a state.
 #![tactic(auto)]
 
 mod laws;

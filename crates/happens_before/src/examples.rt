@@ -1,4 +1,4 @@
-//! Worked histories, computed by the prover.
+//! Worked histories, computed by the prover: a counter, a token, a death, a wake, and a byte with a new owner.
 
 ghost use Rattle.std.specs.Prelude.{◌≡◌, true, false, None};
 ghost use Rattle.happens_before.specs.Clocks.{clock_of};

@@ -1,4 +1,4 @@
-//! How a detector goes through a run, of which it never knows more than the moments so far.
+//! How a detector goes through a run, of which it never knows more than the moments so far: later moments change nothing of what it found.
 
 ghost use Rattle.std.specs.Prelude.{◌≡◌, ◌↔◌, ◌≤◌, ℕ, suc, List, [], ◌∷◌, ◌++◌, length};
 ghost use Rattle.happens_before.specs.Clocks.{clock_of, clocks_after, clocks_next};

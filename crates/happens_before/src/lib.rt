@@ -6,13 +6,6 @@
 //!
 //! Nothing of it runs: each law is the contract of a function that does nothing, proved for all histories.
 //!
-//! | Module | Its laws |
-//! |---|---|
-//! | [`examples`] | worked histories: a counter, a token, a death, a wake, and a byte with a new owner |
-//! | [`order`] | the clock of a part has exactly what happens before it |
-//! | [`races`] | what is told is a race; each race is told by the last access that conflicts, so if nothing is told there is none |
-//! | [`going`] | one more moment is one more step; later moments change nothing of what was found, and a kept clock stays |
-//!
 //! `specs/Histories.antt` says what a history is, `Order` what happens before, `Races` what a race is; `Clocks` and `Told` are the
 //! detector.
 #![tactic(auto)]

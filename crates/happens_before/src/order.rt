@@ -1,4 +1,4 @@
-//! What a detector's clocks tell.
+//! What a detector's clocks tell: the clock of a part has exactly what happens before it.
 
 ghost use Rattle.std.specs.Prelude.{◌≢◌, ◌↔◌, ◌<◌, ◌≤◌, ℕ, List};
 ghost use Rattle.happens_before.specs.Clocks.{clock_of};

@@ -1,4 +1,4 @@
-//! What a detector tells of races.
+//! What a detector tells of races: what it tells is a race, and each race is told by the last access that conflicts.
 
 ghost use Rattle.std.specs.Prelude.{◌≡◌, List};
 ghost use Rattle.happens_before.specs.Histories.{IsHistory, Moment};

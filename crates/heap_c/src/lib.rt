@@ -4,9 +4,7 @@
 //! has a heap of its own notes its calls, and asks what the proved heap answers to them: the first answer that differs is the first
 //! mistake. `examples/heap_in_c` has such a program.
 //!
-//! | Call | Promise |
-//! |---|---|
-//! | [`heap_answers`] | `answered`: the answers are the heap's (`answers_of` in `specs/Answers.antt`); `ranges`: `NO_HEAP` if and only if there is no such heap, or a list is longer than the other; `stays`: then nothing is written, nor if memory runs out |
+//! [`heap_answers`] is the call. What the heap answers to a list of calls is `answers_of` in `specs/Answers.antt`.
 //!
 //! The archive needs `rattle_alloc` and `rattle_dealloc`, which the toolchain's C library has.
 #![tactic(auto)]
@@ -30,8 +28,10 @@ pub const NO_MEMORY: u32 = 2;
 
 /// Makes these calls, one after another, on a heap from `low` up to `high`, all of which is free at first, and writes what each answers.
 ///
-/// `getmem` and `getstk` answer an address, `freemem` and `freestk` 0; a call that is refused is answered by 0xffffffff. The bounds are
-/// multiples of 8, and `high` is at most 1048576. There are as many answers as calls.
+/// `getmem` and `getstk` answer an address, `freemem` and `freestk` 0; a call that is refused is answered by 0xffffffff.
+///
+/// The result is [`ANSWERED`], [`NO_HEAP`] or [`NO_MEMORY`]. It is `NO_HEAP` if and only if a bound isn't a multiple of 8, `low` is above
+/// `high`, `high` is above 1048576, or there aren't as many answers as calls. Unless it is `ANSWERED`, nothing is written.
 #[unsafe(no_mangle)]
 pub extern "C" fn heap_answers(
     alloc: Global,

@@ -10,7 +10,7 @@ use crate::images::Image;
 use crate::parts::Part;
 use rv_hart::Ram;
 
-/// The number, from 1 on, of the first image that overlaps an earlier one. `None` if and only if no two overlap.
+/// The number, from 1 on, of the first image that overlaps an earlier one. `None` if and only if no two overlap. There are at most eight.
 pub fn first_overlap(images: &[Image<'_>]) -> Option<u8>
     requires few { length images.now ≤ 8 }
     ensures first { result ≡ boot.first_overlap 1 [] (map loaded_of images.now) }
@@ -25,7 +25,7 @@ pub fn first_overlap(images: &[Image<'_>]) -> Option<u8>
     None
 }
 
-/// The greatest address after one of the images.
+/// The greatest address after one of the images, at most 1048576, and 0 if there is none.
 pub fn end_of_all(images: &[Image<'_>]) -> u32
     ensures end { result ≡ boot.end_of_all (map loaded_of images.now) }
     ensures in_ram { result ≤ 1048576 }

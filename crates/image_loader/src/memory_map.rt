@@ -17,7 +17,7 @@ impl Image<'_> {
         overlap(self.parts.as_slice(), other.parts.as_slice())
     }
 
-    /// The greatest address after one of its parts.
+    /// The greatest address after one of its parts, at most 1048576.
     pub fn end(&self) -> u32
         ensures end { result ≡ boot.end_of (map part_of self.now.parts.items) }
         ensures in_ram { result ≤ 1048576 }

@@ -22,7 +22,7 @@ use xinu_base::{Next, SYSERR};
 // The control function that answers how many items can be taken.
 const TC_ICHARS: u32 = 4;
 
-/// A character is received.
+/// A character is received. Tables and console are sound, and nothing was done yet in this event.
 pub fn on_type(k: &mut KernelState, b: u8)
     requires start { IsStart k.old.call }
     requires sound { IsSoundTables k.old.call.state.tables }
@@ -34,7 +34,8 @@ pub fn on_type(k: &mut KernelState, b: u8)
     signal_items(k, count);
 }
 
-/// A byte is sent, the first of the echo or else of the output. `None` if and only if output is held or there is no byte.
+/// A byte is sent, the first of the echo or else of the output. `None` if and only if output is held or there is no byte. Tables and
+/// console are sound, and nothing was done yet in this event.
 pub fn on_tx(k: &mut KernelState) -> Option<u8>
     requires start { IsStart k.old.call }
     requires sound { IsSoundTables k.old.call.state.tables }

@@ -62,7 +62,7 @@ pub(crate) fn disk_control(k: &KernelState, f: u32) -> Next
     }
 }
 
-/// What is left of a `read` or a `write` once its request was completed: the reply that was kept.
+/// What is left of a call on a disk, the raw one or that with files, once it was served: the reply that was kept.
 pub(crate) fn go_on_disk(k: &mut KernelState, reply: Option<i32>) -> Next
     requires asks { AsksDisk k.old.call }
     requires waits { (process_at k.old.call.state.tables k.old.call.state.tables.current).rest ≡ Rest.Disk reply }
@@ -77,7 +77,7 @@ pub(crate) fn go_on_disk(k: &mut KernelState, reply: Option<i32>) -> Next
 }
 
 /// The disk completes its first request, well or badly. If the caller lives it becomes ready with its reply, and what was read goes to RAM.
-/// Nothing changes if no request waits.
+/// Nothing changes if no request waits. Tables and disk are sound, and nothing was done yet in this event.
 pub fn on_disk(k: &mut KernelState, good: bool)
     requires start { IsStart k.old.call }
     requires sound { IsSoundTables k.old.call.state.tables }

@@ -21,7 +21,11 @@ use crate::name_calls::mount;
 use kernel_state::{Begun, KernelState};
 use xinu_base::{Call, Next, Rest, SYSERR, each_call};
 
-/// Begins a call on devices or names.
+/// Begins a call on devices or names, of the current process, which isn't the null process. The state is sound, and nothing was done yet in
+/// this event.
+///
+/// What comes of it is what the abstract machine's row of the number gives. Or it is a call on files that takes effect as it is made, which
+/// the abstract machine allows if none is before it.
 #[tactic(auto, unfolding(xinu_model::specs::Calls::calls))]
 pub fn begin(k: &mut KernelState, call: Call) -> Begun
     requires io { is_of Devices call.number ≡ true }
@@ -46,6 +50,9 @@ pub fn begin(k: &mut KernelState, call: Call) -> Begun
 }
 
 /// Does what is left of the current process's call on a device: items or bytes of the console, or the reply of a disk.
+///
+/// The current process isn't the null process, and has something left of such a call. The state is sound, and nothing was done yet in this
+/// event.
 pub fn go_on(k: &mut KernelState) -> Next
     requires calling { IsCalling k.old.call }
     requires io { is_on_device (process_at k.old.call.state.tables k.old.call.state.tables.current).rest ≡ true }

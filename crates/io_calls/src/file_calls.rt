@@ -140,9 +140,11 @@ fn bytes_asked(at: u32, n: i32) -> Option<u32>
     Some(count)
 }
 
-/// The files' disk completes well: the first call takes effect and some after it, or it has a turn. The living callers of those that took
-/// effect become ready with their replies. Tells what happened, in order; nothing happens if no call is under way. At most one block of the disk
-/// changes, and none if no call is under way or the first will be refused or writes no file.
+/// The files' disk completes well: the first call takes effect and some after it, as many as the abstract machine allows, or it has a turn.
+/// The living callers of those that took effect become ready with their replies. Tells what happened, in order; nothing happens if no call
+/// is under way. At most one block of the disk changes, and none if no call is under way or the first will be refused or writes no file.
+///
+/// Tables and files are sound, and nothing was done yet in this event.
 pub fn on_files(k: &mut KernelState) -> FileNotes
     requires start { IsStart k.old.call }
     requires sound { IsSoundTables k.old.call.state.tables }

@@ -9,9 +9,7 @@
 //! the kernel orders the first before the second, the first being the last of its process that conflicts. Of the pairs a report is made for each owner of
 //! bytes, in the order in which they are first told: a variable, a stack, a buffer of a pool, a block of the heap, or else a word of RAM.
 //!
-//! | Call | Promise |
-//! |---|---|
-//! | [`judge`] | `answers`: the command is carried out as its arguments ask, and its end is told by a status (`Answers` in `specs/Theorem.antt`): 0 if no data race is told, 15 if some are, 7 if memory ran out |
+//! [`judge`] is the call, and what its contract says is defined in `specs/Theorem`.
 //!
 //! The text that is sent tells of the run of the inputs, through the schedule to its end: its last line has the number of reports and that of the run's
 //! events, and nothing is before it if there is no report (`IsJudgement` in `specs/Judging.antt`). What the reports say has no clause. Running

@@ -43,7 +43,7 @@ use std::marker::Model;
 use xinu_base::{Call, Family, Next, Pid, Rest, SYSERR, family_of};
 
 /// The kernel. A clause sees the state of the abstract machine inside an event and how the event's call goes, `came`, and the bytes of the
-/// disk with files, `image`.
+/// disk with files, `image`. A clone is equal, and takes memory.
 pub struct Kernel {
     // What calls and events change.
     pub(crate) state: KernelState,
@@ -74,7 +74,8 @@ impl Model for Kernel {
 
 impl Kernel {
     /// A kernel that holds the images and is about to run their processes, with the raw disk of one image and the file system of the other.
-    /// There are at most eight images of programs. The images of disks are dropped if it is refused.
+    /// It is idle, and its disk with files has the bytes of the image. There are at most eight images of programs. The images of disks are
+    /// dropped if it is refused.
     ///
     /// # Errors
     ///
@@ -142,7 +143,7 @@ impl Kernel {
         self.state.call_of()
     }
 
-    /// Carries out one instruction of the current process, which isn't the null process.
+    /// Carries out one instruction of the current process, which isn't the null process. The kernel is idle, before and after.
     pub fn instruction(&mut self) -> Outcome
         requires idle { IsIdle self.old.came }
         requires not_null { self.old.came.call.state.tables.current ≢ 0 }
@@ -155,8 +156,11 @@ impl Kernel {
         self.state.instruction()
     }
 
-    /// Begins a call of the current process. A number that has no call is refused. The sequence number of a port may rise. A call on
-    /// files may take effect as it is made, if no other is under way.
+    /// Begins a call of the current process, and answers how it goes. A number that has no call is refused. A call on files may take effect
+    /// as it is made, if no other is under way.
+    ///
+    /// The kernel is idle, and the current process isn't the null process. The sequence number of a port may rise, so each is below
+    /// 4294967295.
     pub fn begin_core(&mut self, call: Call) -> Begun
         requires idle { IsIdle self.old.came }
         requires not_null { self.old.came.call.state.tables.current ≢ 0 }
@@ -170,7 +174,8 @@ impl Kernel {
         begun
     }
 
-    /// Does what is left of the call in which the current process waited.
+    /// Does what is left of the call in which the current process waited, and answers how the call goes. The kernel is idle, the current
+    /// process isn't the null process, and something is left of its call.
     pub fn go_on_core(&mut self) -> Next
         requires idle { IsIdle self.old.came }
         requires not_null { self.old.came.call.state.tables.current ≢ 0 }
@@ -184,7 +189,7 @@ impl Kernel {
         next
     }
 
-    /// A tick of the clock, with its own reschedules.
+    /// A tick of the clock, with its own reschedules. The kernel is idle, and fewer than 4294967295 ticks have passed.
     pub fn on_tick(&mut self)
         requires idle { IsIdle self.old.came }
         requires few { self.old.came.call.state.tables.ticks < 4294967295 }
@@ -195,7 +200,7 @@ impl Kernel {
         self.answer = None;
     }
 
-    /// A character is received from the console.
+    /// A character is received from the console. The kernel is idle.
     pub fn on_type(&mut self, b: u8)
         requires idle { IsIdle self.old.came }
         ensures received { self.new.came ≡ receiving b self.old.came.call.state }
@@ -205,7 +210,8 @@ impl Kernel {
         self.answer = None;
     }
 
-    /// The console may send a byte. `None`, and nothing changes, if and only if output is held or there is nothing to be sent.
+    /// The console may send a byte, which is the answer. `None`, and nothing changes, if and only if output is held or there is nothing to
+    /// be sent. The kernel is idle.
     pub fn on_tx(&mut self) -> Option<u8>
         requires idle { IsIdle self.old.came }
         ensures byte { result ≡ option_map (λ sent. sent.byte) (transmitted (console_of self.old.came.call.state)) }
@@ -218,7 +224,7 @@ impl Kernel {
     }
 
     /// The raw disk completes its first request, well or badly. If the caller lives it becomes ready with its reply, and what was read goes to
-    /// RAM. Nothing changes if no request waits.
+    /// RAM. Nothing changes if no request waits. The kernel is idle.
     pub fn on_disk(&mut self, good: bool)
         requires idle { IsIdle self.old.came }
         ensures completes { self.new.came ≡ record { call = after_completing (raw_completed good (disk_of self.old.came.call.state)) self.old.came.call.state; answer = Silent } }
@@ -231,7 +237,7 @@ impl Kernel {
     /// The disk with files completes well: the first call on files has its reply, or a turn. Once it has its reply the next becomes the first,
     /// and so on as long as one needs no block. Whoever has a reply becomes ready with it, and what was read is in RAM. At most one block of the
     /// disk changes, and none if the first call will be refused or writes no file. Tells what happened, in order; nothing does if no call is
-    /// under way, nor does the disk change then.
+    /// under way, nor does the disk change then. The kernel is idle.
     pub fn on_files(&mut self) -> FileNotes
         requires idle { IsIdle self.old.came }
         ensures completes { CompletesFiles self.old.came.call.state (map note_of result.items) self.new.came }
@@ -242,7 +248,7 @@ impl Kernel {
         notes
     }
 
-    /// The current process dies, by `exit` or by a trap.
+    /// The current process, which isn't the null process, dies, by `exit` or by a trap. The kernel is idle.
     pub fn die(&mut self)
         requires idle { IsIdle self.old.came }
         requires not_null { self.old.came.call.state.tables.current ≢ 0 }
@@ -253,7 +259,7 @@ impl Kernel {
         self.answer = Some(next);
     }
 
-    /// Ends the event: its one resched, and the replies.
+    /// Ends the event: its one resched, and the replies. Then the kernel is idle.
     pub fn close_event(&mut self)
         ensures idle { IsIdle self.new.came }
         ensures closed { self.new.came ≡ idle (model.end_of_event 0 [] self.old.came).state }

@@ -18,7 +18,8 @@ use xinu_base::Pid;
 
 impl Kernel {
     /// Takes machine steps that print nothing, at most so many, and answers how many. If there were fewer, the current process has something
-    /// left of a call, or its next instruction calls, traps or returns from its first function.
+    /// left of a call, or its next instruction calls, traps or returns from its first function. The kernel is idle, before and after, and a
+    /// process besides the null process is left.
     pub fn steps(&mut self, most: u32) -> u32
         requires idle { IsIdle self.old.came }
         requires lives { is_over self.old.came.call.state ≡ false }

@@ -43,8 +43,9 @@ pub enum BootFault {
     NoMemory,
 }
 
-/// The state in which the images are in RAM and are about to run, with the raw disk of one image and the file system of the other. There
-/// are at most eight images of programs. The images of disks are dropped if it is refused.
+/// The state in which the images are in RAM and are about to run, with the raw disk of one image and the file system of the other. It is
+/// sound, nothing was done yet in it, and its disk with files has the bytes of the image. There are at most eight images of programs. The
+/// images of disks are dropped if it is refused.
 ///
 /// # Errors
 ///

@@ -5,7 +5,7 @@ ghost use Rattle.kernel_state.specs.Beginnings.{next_of};
 
 use xinu_base::Next;
 
-/// How a call begins.
+/// How a call begins. What it came to is then as `BeginsAs` of `specs/Beginnings.antt` says.
 #[derive(Clone, Copy)]
 pub enum Begun {
     /// As its row says.

@@ -24,8 +24,9 @@ pub struct Creation {
     pub args: (u32, u32),
 }
 
-/// Makes process `p`, whose number is free, suspended on a stack of the heap; the search for the next number begins after it. The
-/// address of the stack's highest word. `None`, and nothing changes, if and only if the heap has no such stack.
+/// Makes process `p`, whose number is free, suspended on a stack of the heap; the search for the next number begins after it. Its name has
+/// at most 15 bytes. The answer is the address of the stack's highest word. `None`, and nothing changes, if and only if the heap has no
+/// such stack.
 pub fn make_on_stack(
     tables: &mut KernelTables,
     harts: &mut [Hart; 64],

@@ -26,7 +26,8 @@ impl KernelState {
         }
     }
 
-    /// These processes became ready: each whose call is complete gets this reply, and a resched is owed if there are any.
+    /// These processes became ready: each whose call is complete gets this reply, in their order, and a resched is owed if and only if
+    /// there are any. There are at most 64 of them, and none was answered before in this event.
     pub fn release(&mut self, released: &[Pid], value: i32)
         requires none { self.old.call.released ≡ [] }
         requires few { length released.now ≤ 64 }

@@ -42,7 +42,8 @@ pub fn owes_after(owes_resched: bool, released: &[Pid]) -> bool
     owes_resched || !released.is_empty()
 }
 
-/// Keeps a reply of this value for each of these processes, which were released and whose calls are complete.
+/// Keeps a reply of this value for each of these released processes whose call is complete, in their order. There are at most 64 of them,
+/// and no reply was kept before.
 pub fn answer_released(replies: &mut Replies, tables: &KernelTables, released: &[Pid], value: i32)
     requires none { replies.old.items ≡ [] }
     requires few { length released.now ≤ 64 }

@@ -28,7 +28,8 @@ use std::marker::Model;
 use tty_driver::Tty;
 use xinu_base::{Call, Next, Pid, Rest};
 
-/// The state. A clause sees the abstract machine's inside an event, `call`, and the bytes of the disk with files, `image`.
+/// The state. A clause sees the abstract machine's inside an event, `call`, and the bytes of the disk with files, `image`. A clone is
+/// equal, and takes memory.
 pub struct KernelState {
     /// Processes, semaphores, messages, sleepers and the ticks.
     pub tables: KernelTables,
@@ -145,7 +146,8 @@ impl KernelState {
         let _bytes = self.ram.bytes_from(0);
     }
 
-    /// Ends the event of a call that went so: its one resched, and the replies.
+    /// Ends the event of a call that went so. The replies to released processes are written into their registers, then the caller's into
+    /// its own, if the call answers it. Then comes the one resched of the event, if it is owed or the caller waits or is gone.
     pub fn close(&mut self, answer: Option<Next>)
         ensures closed { self.new.call ≡ start (end_of_event 0 [] (record { call = self.old.call; answer = answer_so_far answer })).state }
         ensures image { self.new.image ≡ self.old.image }

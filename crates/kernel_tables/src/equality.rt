@@ -11,7 +11,7 @@ use process_core::{READY, SLEEPERS};
 use queue_table::Lists;
 
 impl KernelTables {
-    /// Whether other tables are equal.
+    /// Whether other tables are equal, in all that a clause sees.
     pub fn equals(&self, other: &Self) -> bool
         ensures equal { IsTrue result ↔ (self.now ≡ other.now) }
     {

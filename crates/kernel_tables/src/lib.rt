@@ -3,20 +3,9 @@
 //!
 //! A clause sees a `KernelTables` as the abstract machine's `Tables`. That they are as at each moment of an event is kept by the type, so no
 //! call has a condition on lists or counts, and the crates above name none. Ready processes, waiters and sleepers are in one table of lists:
-//! the abstract machine's lists are read off it (`specs/KernelTables.antt`). There is one small method for each move of the abstract machine:
-//!
-//! | Moves | File |
-//! |---|---|
-//! | what is read: the current process, the entries and messages of processes | `tables.rt` |
-//! | `resched`, `ready`, `suspend_ready`, `keep_reply`, `suspend_self`, `set_priority`, `make`, `bury`, `go_on` | `process_moves.rt` |
-//! | `make_semaphore`, `make_two_semaphores`, `wait`, `signal`, `signaln`, `reset_semaphore`, `delete_semaphore` | `semaphore_moves.rt` |
-//! | `send_to`, `take_message`, `listen`, `listen_for` | `message_moves.rt` |
-//! | `sleep`, `tick` | `clock_moves.rt` |
-//! | `lists`: the table of linked entries, which holds the ready list, the waiters and the sleepers (`linked`, `ready`, `waiters`, `sleepers`); the same lists, one process after another | `walks.rt` |
-//! | `equals`: whether other tables are equal (`equal`) | `equality.rt` |
-//!
-//! Each says that the new tables are those of the model's move on the old ones, and what it answers. `new` and `clone` alone take memory. The crate depends
-//! on `process_core`, `semaphores`, `delta_clock`, `messages` and `queue_table`, and on the laws of `table_laws`.
+//! the abstract machine's lists are read off it (`specs/KernelTables.antt`). There is one small method for each move of the abstract
+//! machine. Each says that the new tables are those of the model's move on the old ones, and what it answers. `new` and `clone` alone take
+//! memory. The crate depends on `process_core`, `semaphores`, `delta_clock`, `messages` and `queue_table`, and on the laws of `table_laws`.
 #![tactic(auto)]
 
 mod clock_moves;

@@ -1,4 +1,5 @@
-//! How a process becomes ready, is suspended, dies or is made (book, chapters 5, 6, 9 and 18).
+//! How a process becomes ready, is suspended, goes on, gets a priority, dies or is made, and the resched of an event (book, chapters 5, 6,
+//! 9 and 18).
 //!
 //! It depends on the tables. Each call is one move of the abstract machine.
 

@@ -74,7 +74,7 @@ impl KernelTables {
     }
 
     /// Takes a token of `sem`, or puts the current process, which runs and isn't the null process, last among its waiters, with this
-    /// left of its call. True if and only if a token was taken.
+    /// left of its call, as it is of calls that wait for what the owner of `sem` gives. True if and only if a token was taken.
     pub fn wait(&mut self, sem: Sem, rest: Rest) -> bool
         requires runs { state_at self.old self.old.current ≡ State.Current }
         requires not_null { self.old.current ≢ 0 }
@@ -90,8 +90,8 @@ impl KernelTables {
         took
     }
 
-    /// Gives `sem` a token, which makes its first waiter ready or is kept. Refused if the count is the greatest. The tables were as at each
-    /// moment of an event, so whoever waited is in a call that waits for what the owner of `sem` gives.
+    /// Gives `sem`, which is in use, a token, which makes its first waiter ready or is kept. Refused if the count is the greatest. The
+    /// tables were as at each moment of an event, so whoever waited is in a call that waits for what the owner of `sem` gives.
     pub fn signal(&mut self, sem: Sem) -> Signalled
         requires used { IsSome (semaphore_at self.old sem).owner }
         ensures inside { IsInside self.old }

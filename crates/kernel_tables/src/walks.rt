@@ -1,4 +1,5 @@
-//! The lists from one process to the next, as the tables are printed: the ready list, the waiters of a semaphore, the sleepers.
+//! The ready list, the waiters of a semaphore and the sleepers: the table of linked entries that holds them, and each of them from one
+//! process to the next, as the tables are printed.
 //!
 //! It depends on the tables.
 

@@ -56,7 +56,7 @@ impl CleanImage {
         CleanImage { bytes }
     }
 
-    /// An image without files.
+    /// An image of so many blocks without files. `blocks` is at least 14 and at most 65,542.
     ///
     /// # Errors
     ///
@@ -118,7 +118,7 @@ impl CleanImage {
         }
     }
 
-    /// The bytes of the image.
+    /// The bytes of the image, which have version 2 and break no rule.
     pub fn bytes(&self) -> &[u8]
         ensures bytes { result.now ≡ self.now }
         ensures clean { IsCleanImage self.now }
@@ -126,7 +126,7 @@ impl CleanImage {
         &self.bytes
     }
 
-    /// The bytes of the image, which is used up.
+    /// The bytes of the image, which is used up. They have version 2 and break no rule.
     pub fn into_bytes(self) -> Vec<u8>
         ensures bytes { result.items ≡ self }
         ensures clean { IsCleanImage self }

@@ -3,10 +3,7 @@
 //! The argument is the name of a source in assembler. A source that `asm` refuses is refused with the same status and text, and another line
 //! says which word of the line is at fault.
 //!
-//! | Call | Promise |
-//! |---|---|
-//! | [`listing`] | `answers`: of one name, what the bytes of its file deserve; any other arguments are refused in words |
-//! | [`answer`] | `answers`: what a source deserves (`answer` in `specs/Answers.antt`): its listing, or its first fault and the line that says it in words |
+//! [`listing`] is the call, and [`answer`] the part of it that needs no file. `specs/Answers.antt` says what a source deserves.
 //!
 //! The host's failures are status 3, and come only if its count of faults rose. Running out of memory, status 7, is free.
 #![tactic(auto)]

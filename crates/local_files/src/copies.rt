@@ -1,4 +1,4 @@
-//! Copies of engines, and whether two have the same files open.
+//! Copies of engines, each equal to the one that is copied and with a buffer of its own, and whether two engines have the same files open.
 
 ghost use Rattle.std.specs.Prelude.{ℕ, ◌≡◌, ◌↔◌, IsTrue, List, map};
 ghost use Rattle.lfs_layout.specs.Images.{IsCleanImage};
@@ -20,7 +20,8 @@ impl Clone for Files {
 
 impl Files {
     /// Whether the devices of another engine show the same open: files of the same names, at the same positions, and whether each may be
-    /// read and written. Where the entry of a file is, and what it says of its blocks, isn't compared.
+    /// read and written. Where the entry of a file is, and what it says of its blocks, isn't compared. The answer is exact if both engines
+    /// stand for disks.
     pub fn has_same_open(&self, other: &Self) -> bool
         ensures equal { (base disk other_base other_disk : List ℕ) → Stands self.now base disk → Stands other.now other_base other_disk
             → IsTrue result ↔ (map shown self.now.devices ≡ map shown other.now.devices) }

@@ -15,7 +15,8 @@ use std::alloc::Global;
 use xinu_base::NoMemory;
 
 impl Files {
-    /// An engine for a disk of so many blocks, with no file open. It takes all the memory that it ever has.
+    /// An engine for a disk of so many blocks, with no file open: it stands for any clean disk of that size. It takes a buffer of 1 MiB,
+    /// which is all the memory that it ever has. Of the other calls only a copy takes memory.
     ///
     /// # Errors
     ///
@@ -70,6 +71,10 @@ impl Files {
     {}
 
     /// Begins a call. `bytes` are those that a write puts.
+    ///
+    /// No call may be in hand, the call must be one that can be made ([`is_call`](crate::is_call)), and there may be at most 1 MiB of
+    /// bytes. Then the call is in hand and wants a block, or it is done as the abstract machine's call is. It has at most as many
+    /// completions left as the abstract machine allows it.
     pub fn begin(&mut self, call: FileCall, bytes: &[u8])
         requires idle { self.old.phase ≡ Phase.Idle }
         requires call { IsCall call }
@@ -93,7 +98,8 @@ impl Files {
         }
     }
 
-    /// The work that is wanted.
+    /// The work that is wanted: the block that is to be read, or to be written with the bytes of [`Files::outgoing`]. `None` if and only if
+    /// the engine waits for no block, since no call is in hand or the one in hand is done.
     pub fn wants(&self) -> Option<BlockWork>
         ensures { result ≡ wanted self.now }
     {
@@ -103,7 +109,7 @@ impl Files {
         }
     }
 
-    /// The block that is to be written.
+    /// The bytes of the block that is to be written.
     pub fn outgoing(&self) -> &[u8; 512]
         ensures block { result.now ≡ self.now.block }
         ensures len { length self.now.block ≡ 512 }
@@ -111,7 +117,7 @@ impl Files {
         &self.block
     }
 
-    /// The reply, once it stands.
+    /// The reply of a call that is done, after which none is in hand. `None` if and only if no call is done, and then nothing changes.
     pub fn answer(&mut self) -> Option<i32>
         ensures reply { result ≡ reply_in self.old.phase }
         ensures new { self.new ≡ taken_in self.old.phase self.old }
@@ -142,7 +148,10 @@ impl Files {
         self.buffer.first(self.counters.given)
     }
 
-    /// One good completion.
+    /// One good completion: the block that is wanted was read, with these bytes, or was written. A block must be wanted.
+    ///
+    /// Then the call goes on, and the files stand as before it; or it is done as the abstract machine's call is, with its reply, its bytes
+    /// and its files. Fewer completions are left.
     pub fn completed(&mut self, read: &[u8; 512])
         requires wants { IsSome (wanted self.old) }
         ensures goes { (base disk : List ℕ) → Stands self.old base disk → IsHonest self.old read.now disk

@@ -13,9 +13,9 @@ ghost use Rattle.local_files.specs.Resting.{AreAtRest, IsFirstCall, IsOnDisk, Ch
 use crate::Files;
 
 impl Files {
-    /// At each moment the disk holds the files that are at rest: between two calls, and before and after each completion of a call,
-    /// also between the two writes of the directory. So it holds those that are at rest of the abstract machine's file work, if the engine
-    /// has its first call in hand.
+    /// At each moment the disk holds the files that are at rest, which are neither open nor named by the call in hand: between two calls,
+    /// and before and after each completion of a call, also between the two writes of the directory. So it holds those that are at rest of
+    /// the abstract machine's file work, if the engine has its first call in hand.
     pub fn holds_files_at_rest(&self)
         ensures held { (base disk : List ℕ) (rests : List ℕ → Bool) → Stands self.now base disk → AreAtRest self.now base rests
             → Holds disk (stored_files base) rests }
@@ -40,7 +40,8 @@ impl Files {
         ensures after { (base disk : List ℕ) → Stands self.now base disk → WillBeRefused self.now base → served self.now disk ≡ base }
     {}
 
-    /// A call that writes no file leaves the disk as it is at each of its completions.
+    /// A call that writes no file leaves the disk as it is at each of its completions: it reads, moves, tells a size or closes, or opens a
+    /// file that is there.
     pub fn leaves_the_disk_if_it_reads(&self)
         ensures same { (base disk : List ℕ) → Stands self.now base disk
             → OnlyReads (call_of self.now.call (call_bytes self.now)) (system self.now base) → served self.now disk ≡ disk }

@@ -1,27 +1,7 @@
 //! The file engine: what a call on files does to a disk of version 2, block by block (book, chapter 19).
 //!
-//! It knows no disk and no process. Between calls it keeps of each open device the entry of its file, the entry's place, the position and
-//! what is allowed, and nothing else of the disk.
-//!
-//! | Call | Condition | Promise |
-//! |---|---|---|
-//! | `new` | | `stands`: no file is open on any clean disk of so many blocks; or `NoMemory`. It takes a buffer of 1 MiB, and no other call but `clone` takes memory |
-//! | `begin` | `idle`: no call is in hand; `call`, `bytes`: the numbers of bytes are at most 1 MiB | `goes`: the call is in hand, or it is done as the abstract machine's call is; `bound`: it has at most as many completions left as the abstract machine allows it |
-//! | `wants`, `outgoing` | | the block that is to be read, or to be written with these bytes |
-//! | `completed` | `wants`: a block is | `goes`: the call goes on, and the files stand as before it, or it is done as the abstract machine's call is, with its reply, its bytes and its files; `less`: fewer completions are left |
-//! | `answer`, `gathered` | | the reply of a call that is done, after which none is in hand; the bytes that it read |
-//! | `call_bytes` | | the bytes that the call in hand writes |
-//! | `position`, `open_count` | | what is open |
-//! | `has_same_open` | | `equal`: `true` if and only if the devices of another engine show the same, if both stand for disks: the names of files, their positions, and whether each may be read and written |
-//! | `clone` | | an equal engine; it takes memory |
-//! | [`file_name`] | | a text as a call names a file: `bare`, `name`; `none`: no file has such a name |
-//! | [`is_call`] | | whether a call can be made, as `begin` requires it: `can`, `only` |
-//! | `holds_files_at_rest` | | a law: at each moment the disk holds the files that are neither open nor named by the call in hand |
-//! | `wants_a_block_of_the_disk`, `changes_one_block` | | laws: the block that is wanted lies on the disk, and a completion changes at most one |
-//! | `leaves_the_disk_if_refused` | | a law: a call that will be refused leaves the disk as it was when the call began, before each completion and after it |
-//! | `leaves_the_disk_if_it_reads` | | a law: a call that reads, moves, tells a size or closes, or opens a file that is there, leaves the disk as it is at each completion |
-//! | `has_a_completion_left` | | a law: while a block is wanted, a completion is left |
-//! | `stands_for_any` | `idle` | a law: with no file open the engine stands for any clean disk of its size, so nothing that it read is kept |
+//! [`Files`], the engine, knows no disk and no process. Between calls it keeps of each open device the entry of its file, the entry's
+//! place, the position and what is allowed, and nothing else of the disk.
 //!
 //! The contract is one relation, `Stands files base disk` in `specs/Standing`: `base` is the disk as it was when the call in hand began,
 //! and the files of the abstract machine are those of `base` until the call is done. How many completions the call in hand has left at

@@ -15,8 +15,10 @@ use lfs_layout::{CleanImage, RawImage};
 use std::alloc::Global;
 
 impl Machine {
-    /// A machine on these disks that holds the images and is about to run their processes. There are one to eight. No address has two
-    /// owners in it.
+    /// A machine on these disks that holds the images and is about to run their processes. There are one to eight.
+    ///
+    /// It stands for the state in which `boot_on` of the abstract machine starts. That is sound, and no address has two owners in it. The
+    /// disk with files has the bytes of `disk1`.
     ///
     /// # Errors
     ///

@@ -21,7 +21,7 @@ impl Clone for Machine {
 }
 
 impl Machine {
-    /// Whether another machine is equal and no call on files is under way.
+    /// Whether all that a clause sees of another machine is equal, and no call on files is under way.
     pub fn equals(&self, other: &Self) -> bool
         ensures equal { IsTrue result ↔
             ((are_calls (files_of self.now.state).calls ≡ false) × (self.now ≡ other.now)) }

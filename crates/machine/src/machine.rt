@@ -43,7 +43,7 @@ pub enum Go {
 }
 
 /// A machine that was booted. A clause sees its state, the bytes of the disk with files, how many events it took, and whether
-/// one of them ended the run.
+/// one of them ended the run. A clone is equal.
 pub struct Machine {
     pub(crate) kernel: Kernel,
     pub(crate) events: u64,
@@ -73,20 +73,24 @@ impl Model for Machine {
 }
 
 impl Machine {
-    /// Prints the line of the process that runs first.
+    /// Prints the line `run` of the process that runs first.
     pub fn start<H: Host>(&self, out: &mut Printer, host: &mut H)
         ensures { Prints out.old out.new (H.view host.old) (H.view host.new) (shown out.old.plain (line.Switch self.now.state.tables.current ∷ [])) }
     {
         print_line(&TranscriptLine::Switch(self.kernel.current()), out, host);
     }
 
-    /// Takes one event and prints its lines.
+    /// Takes one event and prints its lines. No event ended the run before, and fewer than 10^9 were taken.
     ///
-    /// `Panic` comes if and only if the kernel panicked in this event, else `Done` if and only if the last process beside the null process
-    /// died in it. The lines say which calls on files took effect. No address comes to have two owners in it, unless a process gives back what
-    /// a pool or a stack has. What always holds between two events holds after it: the disk with files holds the files of the state at rest,
-    /// and is clean for exactly them if no call on files is under way. Only a good completion of that disk changes it, and at most one block of
-    /// it; and it changes nothing if no call on files is under way, or the first will be refused or writes no file.
+    /// The machine goes to a state that the abstract machine allows (`Happens`). `Panic` comes if and only if the kernel panicked in this
+    /// event, else `Done` if and only if the last process beside the null process died in it. The lines say which calls on files took
+    /// effect.
+    ///
+    /// No address comes to have two owners in it, unless a process gives back what a pool or a stack has, and pools and stacks get only
+    /// what was free. What always holds between two events holds after it, of the console as of the other parts: the disk with files holds
+    /// the files of the state at rest, and is clean for exactly them if no call on files is under way. Only a good completion of that disk
+    /// changes it, and at most one block of it; and it changes nothing if no call on files is under way, or the first will be refused or
+    /// writes no file.
     pub fn event<H: Host>(&mut self, event: Event, out: &mut Printer, host: &mut H) -> Go
         requires goes_on { self.old.over ≡ false }
         requires few { self.old.events < 1000000000 }
@@ -110,7 +114,7 @@ impl Machine {
         go
     }
 
-    /// The state: registers, RAM and tables, to be read part by part.
+    /// The state: registers, RAM and tables, each part to be read by its own calls. It is sound, and at most 10^9 ticks came.
     pub fn state(&self) -> &KernelState
         ensures state { result.now.call.state ≡ self.now.state }
         ensures image { result.now.image ≡ self.now.image }
@@ -120,7 +124,7 @@ impl Machine {
         self.kernel.state()
     }
 
-    /// Prints the tables.
+    /// Prints the tables of the state.
     pub fn dump<H: Host>(&self, out: &mut Printer, host: &mut H)
         ensures { Prints out.old out.new (H.view host.old) (H.view host.new) (shown out.old.plain (tables_of self.now.state)) }
     {
@@ -138,7 +142,8 @@ impl Machine {
         lists_of(self.kernel.state())
     }
 
-    /// The bytes of a disk: of the raw disk for 0, of the disk with files for 1. That holds the files of the state at rest.
+    /// The bytes of a disk: of the raw disk for 0, of the disk with files for 1. That holds the files of the state at rest, and is clean
+    /// for exactly them if no call on files is under way.
     pub fn disk(&self, n: u8) -> &[u8]
         requires which { n < 2 }
         ensures bytes { result.now ≡ bytes_of n self.now }

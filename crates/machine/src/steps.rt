@@ -8,7 +8,8 @@ ghost use Rattle.xinu_model.specs.Steps.{ArePlain, stepped_times};
 use crate::machine::Machine;
 
 impl Machine {
-    /// Takes steps that print nothing, at most so many, and answers how many. None of them ends the run.
+    /// Takes steps that print nothing, at most so many, and answers how many. None of them ends the run. No event ended it before, and with
+    /// so many steps there are at most 10^9 events.
     ///
     /// They change registers and RAM alone. If there were fewer, the next step is one that may print, which [`Machine::event`] takes: the
     /// current process has something left of a call, or its next instruction calls, traps or returns from its first function.

@@ -55,7 +55,7 @@ impl Model for Strays {
 }
 
 impl Strays {
-    /// Of no step of a run with the images in these files.
+    /// Of a run with the images in these files: nothing is noted yet.
     ///
     /// # Errors
     /// Out of memory.
@@ -75,7 +75,7 @@ impl Strays {
         })
     }
 
-    /// The first step ahead of which the stack pointer was below the stack, if there is one.
+    /// The first step ahead of which the stack pointer of its process was below that process's stack, if there is one.
     pub fn below(&self) -> Option<Stray>
         ensures below { result ≡ self.now.below }
     {
@@ -89,28 +89,28 @@ impl Strays {
         self.stack
     }
 
-    /// The first store over a word that was executed before, if there is one.
+    /// The first store over a word that a step executed before, if there is one.
     pub fn code(&self) -> Option<Stray>
         ensures code { result ≡ self.now.code }
     {
         self.code
     }
 
-    /// The first store into memory that was free, if there is one.
+    /// The first store into a free block of the heap, if there is one.
     pub fn free(&self) -> Option<Stray>
         ensures free { result ≡ self.now.free }
     {
         self.free
     }
 
-    /// The first store near null where no image lies, if there is one.
+    /// The first store near null, at one of the addresses 0 to 15, if there is one. None is noted if an image has one of these addresses.
     pub fn null(&self) -> Option<Stray>
         ensures null { result ≡ self.now.null }
     {
         self.null
     }
 
-    /// Notes the next step of a state to which so many events led, if it strays.
+    /// Notes the next step of a sound state to which so many events led, if it is the first of a kind. It takes no memory.
     pub fn note(&mut self, k: &KernelState, taken: u32)
         requires sound { IsSound k.now.call.state }
         ensures noted { self.new ≡ specs.note taken k.now.call.state self.old }

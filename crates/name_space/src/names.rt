@@ -24,7 +24,7 @@ const NM_MAXMAPS: u32 = 40;
 // The number of the device that maps names.
 const NAMESPACE: usize = 1;
 
-/// The mounted prefixes, at most 40, in the order in which they were mounted.
+/// The mounted prefixes, at most 40, in the order in which they were mounted. A clone is equal.
 #[derive(Clone, Drop)]
 pub struct Names {
     rows: ArrayVec<Row, 40>,

@@ -18,7 +18,7 @@ use xinu_base::{Port, PortTicket, Sem};
 pub enum Sent {
     /// It is the last of the port; the semaphore is that of the receivers.
     Put(Sem),
-    /// All nodes are in use.
+    /// All nodes are in use: all ports together have a hundred messages.
     Full,
     /// The port was reset, deleted or made anew since the ticket was taken.
     Stale,
@@ -37,7 +37,8 @@ impl Ports {
     ghost use Rattle.ports.specs.Calls.{queue_at_seq, received, sent, ticket_from, ticket_to, with_deleted, with_last, with_made, with_reset, with_rest};
     ghost use Rattle.ports.specs.Table.{head_of, queue_of};
 
-    /// Makes `q`, with room for so many messages. The next search begins after it.
+    /// Makes `q`, with room for so many messages and with the next sequence number. The next search begins after it. The count must not be
+    /// negative, and the sequence number must be below 4294967295 before.
     pub fn make(&mut self, q: Port, count: i32, send: Sem, receive: Sem)
         requires counted { pos 0 ≤ℤ count }
         requires room { (port_at self.old.ports q).seq < 4294967295 }
@@ -52,8 +53,8 @@ impl Ports {
         self.set_next(Port::at((q.index() + 1) % 30));
     }
 
-    /// Makes `q` as it was made, with no messages. Those that it had are the answer, in order. What is left of calls that began
-    /// before is stale.
+    /// Makes `q` as it was made, with no messages and with the next sequence number. The messages that it had are the answer, in order.
+    /// What is left of calls that began before is stale. The sequence number must be below 4294967295 before.
     pub fn reset(&mut self, q: Port) -> ArrayVec<u32, 100>
         requires room { (port_at self.old.ports q).seq < 4294967295 }
         ensures messages { result.items ≡ queued (port_at self.old.ports q).queue }
@@ -63,7 +64,8 @@ impl Ports {
         self.renew(q, head)
     }
 
-    /// Deletes `q`. The messages that it had are the answer, in order. The next search begins at `q`.
+    /// Deletes `q`, which gets the next sequence number. The messages that it had are the answer, in order. The next search begins at `q`.
+    /// The sequence number must be below 4294967295 before.
     pub fn delete(&mut self, q: Port) -> ArrayVec<u32, 100>
         requires room { (port_at self.old.ports q).seq < 4294967295 }
         ensures messages { result.items ≡ queued (port_at self.old.ports q).queue }
@@ -74,7 +76,8 @@ impl Ports {
         messages
     }
 
-    /// What a sender to `q` keeps while it waits for room. `None` if and only if `q` isn't in use.
+    /// What a sender to `q` keeps while it waits for room: the port, its sequence number and the semaphore of the senders. `None` if and
+    /// only if `q` isn't in use.
     pub fn send_ticket(&self, q: Port) -> Option<PortTicket>
         ensures ticket { result ≡ ticket_to q (port_at self.now.ports q).seq (port_at self.now.ports q).queue }
     {
@@ -86,7 +89,8 @@ impl Ports {
         })
     }
 
-    /// What a receiver from `q` keeps while it waits for a message. `None` if and only if `q` isn't in use.
+    /// What a receiver from `q` keeps while it waits for a message: the port, its sequence number and the semaphore of the receivers.
+    /// `None` if and only if `q` isn't in use.
     pub fn receive_ticket(&self, q: Port) -> Option<PortTicket>
         ensures ticket { result ≡ ticket_from q (port_at self.now.ports q).seq (port_at self.now.ports q).queue }
     {
@@ -98,7 +102,8 @@ impl Ports {
         })
     }
 
-    /// Whether the port of a ticket was reset, deleted or made anew since the ticket was taken.
+    /// Whether the port of a ticket was reset, deleted or made anew since the ticket was taken: it isn't in use, or has another sequence
+    /// number.
     pub fn is_stale(&self, ticket: PortTicket) -> bool
         ensures stale { result ≡ model.is_stale ticket self.now.ports }
     {
@@ -106,7 +111,8 @@ impl Ports {
         self.head_at(port, seq).is_none()
     }
 
-    /// Puts a message after those of the port of a ticket. Nothing changes if the ticket is stale, or else all nodes are in use.
+    /// Puts a message after those of the port of a ticket. Nothing changes if the ticket is stale, or else if all ports together have a
+    /// hundred messages.
     pub fn send(&mut self, ticket: PortTicket, message: u32) -> Sent
         ensures answer { result ≡ (sent ticket message self.old).0 }
         ensures ports { self.new ≡ (sent ticket message self.old).1 }

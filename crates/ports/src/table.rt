@@ -84,7 +84,8 @@ impl Ports {
         })
     }
 
-    /// Whether another table is equal.
+    /// Whether another table is equal: its ports have the same heads, sequence numbers and messages, whichever nodes these are in, and the
+    /// next search begins at the same number.
     pub fn equals(&self, other: &Self) -> bool
         ensures equal { IsTrue result ↔ (self.now ≡ other.now) }
     {

@@ -9,7 +9,7 @@ ghost use Rattle.preemptions.specs.Passes.{AreAhead, Steps};
 use std::alloc::{AllocError, Global};
 use xinu_base::Event;
 
-/// The events with the end of a quantum at each of these places, which ascend.
+/// The events with the end of a quantum at each of these places, which ascend: two ticks before the step that follows so many steps.
 ///
 /// # Errors
 /// Out of memory.

@@ -1,4 +1,4 @@
-//! Laws of the definitions.
+//! Laws of the definitions: which placements there are, in which order, and when the preemptions of one come.
 
 ghost use Rattle.std.specs.Prelude.{◌≡◌, ◌≢◌, ◌<◌, ℕ, List, [], ◌∷◌, drop};
 ghost use Rattle.std.specs.List.{All, AllPairs, Contains, count_by};

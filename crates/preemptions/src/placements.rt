@@ -34,7 +34,8 @@ impl Model for Placements {
 }
 
 impl Placements {
-    /// All placements with at most so many places in a stretch.
+    /// All placements with at most so many places in a stretch, each once: those with fewer places first, and of as many places the
+    /// earlier ones.
     pub fn new(alloc: Global, most: u32, stretch: Stretch) -> Placements
         ensures all { result ≡ spec.placements most stretch }
     {
@@ -46,7 +47,7 @@ impl Placements {
         }
     }
 
-    /// The first one that is still to come; `None` if there is none.
+    /// The first one that is still to come; `None` if and only if there is none.
     pub fn first(&self) -> Option<&[u32]>
         ensures first { MatchOption result (self.now ≡ []) (λ places. self.now ≡ places.now ∷ drop 1 self.now) }
     {
@@ -57,7 +58,7 @@ impl Placements {
         }
     }
 
-    /// Takes the first one off.
+    /// Takes the first one off, if there is one.
     ///
     /// # Errors
     /// `NoMemory`: all are still to come.

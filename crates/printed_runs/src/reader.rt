@@ -14,14 +14,14 @@ use crate::usages::{Usage, Usages};
 use text_lines::first_line;
 use xinu_base::Sem;
 
-/// What the lines of the events so far told.
+/// Reads tables, and knows what the lines of the events so far told: a table says on which semaphore a process waits, and a line for what.
 #[derive(Clone, Copy)]
 pub struct Reader {
     usages: Usages,
 }
 
 impl Reader {
-    /// Of no line.
+    /// A reader that was told no line.
     pub fn new() -> Reader
         ensures knows { Knows [] result.usages }
     {

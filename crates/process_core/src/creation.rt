@@ -29,8 +29,8 @@ impl Procs {
         }
     }
 
-    /// Makes process `p`, whose number is free, suspended; the search for the next number begins after it. The name has at most 15
-    /// bytes, and the stack is the address of its highest word and its size in bytes.
+    /// Makes process `p`, whose number is free, suspended, and puts it in no list; the search for the next number begins after it. The name
+    /// has at most 15 bytes, and the stack is the address of its highest word and its size in bytes.
     pub fn make(&mut self, p: Pid, priority: i16, parent: Pid, name: &[u8], stack: (u32, u32))
         requires free { (process_in self.old.processes p).state ≡ State.Free }
         requires short { length name.now ≤ 15 }
@@ -54,7 +54,7 @@ impl Procs {
         self.set_last(p);
     }
 
-    /// Frees the number of `p`, which is in no list. It may be the current process.
+    /// Frees the number of `p`, which is in no list: its entry is what it was at the start. It may be the current process.
     pub fn free_part(&mut self, lists: &Lists, p: Pid)
         requires absent { place (table.lists lists.now) p ≡ None }
         requires fits { Fits (table.lists lists.now) self.old.processes }

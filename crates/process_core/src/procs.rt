@@ -16,7 +16,7 @@ use std::alloc::Global;
 use std::marker::Model;
 use xinu_base::{NoMemory, Pid, Process, QUANTUM, Rest, State};
 
-/// The entries by process number, who runs now, and for how many ticks it may go on.
+/// The entries by process number, who runs now, for how many ticks it may go on, and the last number given. A clone is equal.
 #[derive(Clone, Drop)]
 pub struct Procs {
     // The processes, by number.
@@ -38,8 +38,8 @@ impl Model for Procs {
 }
 
 impl Procs {
-    /// The null process alone, current, with priority 0 and the name `prnull`. The table is part of the value, so there is always
-    /// room for it.
+    /// The machine's table at the start: the null process alone, current, with priority 0 and the name `prnull`. It fits new lists, which
+    /// are all empty. The table is part of the value, so there is always room for it, and this is never refused.
     pub fn new(_alloc: Global) -> Result<Self, NoMemory>
         ensures starts { IfOk result (λ s. s ≡ first_table) }
         ensures never { IfErr result (λ _. ⊥) }
@@ -56,7 +56,7 @@ impl Procs {
         })
     }
 
-    /// Whether another table is equal.
+    /// Whether another table is equal: in all entries, the current process, what is left of the quantum, and the last number given.
     pub fn equals(&self, other: &Self) -> bool
         ensures equal { IsTrue result ↔ (self.now ≡ other.now) }
     {
@@ -102,7 +102,7 @@ impl Procs {
         matches!(self.entries[self.current.index()].state, State::Current)
     }
 
-    /// Sets what is left of the call of `p`.
+    /// Sets what is left of the call of `p`, and nothing else.
     pub fn set_rest(&mut self, p: Pid, rest: Rest)
         ensures procs { self.new ≡ with_process p (record (process_in self.old.processes p) { rest = rest }) self.old }
     {

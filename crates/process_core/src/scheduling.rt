@@ -57,7 +57,8 @@ impl Procs {
         lists.insert(p.index(), READY, i32::from(priority));
     }
 
-    /// Puts the current process, which runs, into a state in which it waits or is suspended. It stays current until the resched.
+    /// Puts the current process, which runs, into a state in which it waits or is suspended, and leaves it in no list. It stays current
+    /// until the resched.
     pub fn block(&mut self, state: State)
         requires runs { (process_in self.old.processes self.old.current).state ≡ State.Current }
         requires blocks { IsBlocked state }
@@ -96,7 +97,7 @@ impl Procs {
         self.dispatch_first(lists)
     }
 
-    /// Takes `p`, which is ready, out of the ready list and suspends it.
+    /// Takes `p`, which is ready, out of the ready list and suspends it. It is in no list then.
     pub fn suspend_ready(&mut self, lists: &mut Lists, p: Pid)
         requires ready { (process_in self.old.processes p).state ≡ State.Ready }
         requires fits { Fits (table.lists lists.old) self.old.processes }

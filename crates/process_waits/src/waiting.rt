@@ -6,7 +6,7 @@ ghost use Rattle.process_waits.specs.Waiting as spec;
 use kernel_tables::KernelTables;
 use xinu_base::{Pid, Sem};
 
-/// The semaphore on which a process waits.
+/// The semaphore on which a process waits. `None` if and only if it waits on none.
 pub fn awaited(tables: &KernelTables, p: Pid) -> Option<Sem>
     ensures semaphore { result ≡ spec.awaited tables.now p }
 {
@@ -33,7 +33,7 @@ fn waits_on(tables: &KernelTables, sem: Sem, p: Pid) -> bool
     false
 }
 
-/// The tick at which a process wakes, if it is a sleeper.
+/// The tick at which a process wakes. `None` if and only if it isn't a sleeper. At most 1000000000 ticks have passed.
 pub fn wake_of(tables: &KernelTables, p: Pid) -> Option<u32>
     requires few { tables.now.ticks ≤ 1000000000 }
     ensures wake { result ≡ spec.wake_in p tables.now.sleepers }

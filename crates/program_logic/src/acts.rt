@@ -43,7 +43,7 @@ pub enum Act {
     Stops,
 }
 
-/// What an instruction at an address does.
+/// What an instruction at an address does, as far as what is known of the registers tells.
 pub fn act_of(instruction: Instr, pc: u32, facts: &Facts) -> Act
     ensures { result ≡ acts.act_of instruction pc facts.now }
 {

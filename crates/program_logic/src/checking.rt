@@ -13,7 +13,9 @@ use crate::outline::{Lock, Place, Range, follows};
 use crate::values::Slot;
 use crate::word_check::place_checks;
 
-/// Whether these programs keep to the lock: all their outlines hold, on every schedule.
+/// Whether these programs, each a range of the table, pass the check. If the answer is `true` all their outlines hold on every schedule:
+/// from the start on, on any disks, the programs keep the rule of the lock, and each of them stays alive. `false` tells nothing of what
+/// they do.
 #[tactic(auto, using(crate::proofs::Tables::all_check))]
 pub fn check(lock: &Lock, table: &[Place], ranges: &[Range]) -> bool
     ensures checks { result ≡ true → systems.system_checks lock.now (programs_in table.now ranges.now) ≡ true }

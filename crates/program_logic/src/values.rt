@@ -23,7 +23,7 @@ pub enum Slot {
     Known(Term),
 }
 
-/// A number.
+/// A value that is known to be this number.
 pub fn constant(number: u32) -> Slot
     ensures { result ≡ Slot.Known (terms.constant number) }
 {
@@ -72,7 +72,7 @@ pub(crate) fn slot_shifted(slot: Slot, amount: Option<u32>) -> Slot
     }
 }
 
-/// The number that a value is known to be.
+/// The number that a value is known to be. `None` if and only if it isn't known to be one.
 pub fn number_in(slot: Slot) -> Option<u32>
     ensures { result ≡ terms.number_in slot }
 {

@@ -1,10 +1,7 @@
 //! The arguments of the command `prove`: the lock, the address of the word that it guards, the rule, and the names of images.
 //!
-//! | Call | Promise |
-//! |---|---|
-//! | [`words_of`] | `asked`: what the arguments ask, as a definition says (`asked` in `specs/Words.antt`); `few`: at most eight images are named |
-//!
-//! What the text of a rule says is a definition too (`rule_in` in `specs/Rules.antt`).
+//! [`words_of`] is the call. What the arguments ask is a definition (`asked` in `specs/Words.antt`), and so is what the text of a rule says
+//! (`rule_in` in `specs/Rules.antt`).
 #![tactic(auto)]
 
 mod rule;

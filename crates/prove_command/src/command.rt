@@ -33,6 +33,10 @@ const NOT_FOLLOWED: u8 = 14;
 ///
 /// The status is 0 if it is proved, 10 if the rule of the lock is broken on some way, and 14 if something isn't covered. Else it is the status with
 /// which `run` refuses such arguments and images, and its text is sent on Fault.
+///
+/// If the status is 0 the images that the arguments name boot, and keep the rule of the lock that they name on every schedule and on any
+/// sound disks, with no other premise. Of arguments that are right exactly the files of the images are fetched, in order, all of them
+/// unless the host fails or memory runs out. But for that, the text that is sent and the count of faults the host is as it was.
 pub fn prove<H: Host>(alloc: Global, args: &[String], host: &mut H) -> u8
     ensures proved { result ≡ 0 → spec.ProvesAsked (map string_bytes args.now) (H.view host.old).file }
     ensures answers { spec.Answers result (map string_bytes args.now) (H.view host.old) (H.view host.new) }

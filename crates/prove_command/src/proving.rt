@@ -29,11 +29,14 @@ pub enum Answer {
     Unchecked,
 }
 
-/// Whether these images keep the rule of a lock. The table gets the places of their programs, with what is known at each, and the ranges say
-/// where in it each program is.
+/// Whether these images, at most eight, keep the rule of a lock. The table gets the places of their programs, with what is known at each,
+/// and the ranges say where in it each program is.
+///
+/// If the answer is `Proved` the images boot on any disks. From there, if the disks are sound, on every schedule and at each moment the
+/// process of each image is alive, and whenever nobody has the token the guarded word is what the rule says.
 ///
 /// # Errors
-/// `Overlap` and `NoRoom` if they don't boot; `NoMemory`.
+/// `Overlap` and `NoRoom` say why they don't boot: images that are answered of boot. `NoMemory` says nothing of them.
 pub fn prove_images(
     alloc: Global,
     images: &[Image<'_>],

@@ -31,7 +31,7 @@ pub fn the_texts_make_the_images()
     ensures second { IsSourceOf second_text (image_of 64 second_words) }
 {}
 
-/// The programs boot, on any disks.
+/// The programs boot, on any disks: what is said of their runs is said of some.
 pub fn the_programs_boot()
     ensures counting { (disks : Disks) → (start : Xinu) × (boot_on disks counting_images ≡ Boots start) }
     ensures adding { (disks : Disks) → (start : Xinu) × (boot_on disks adding_images ≡ Boots start) }
@@ -56,7 +56,9 @@ pub fn both_go_on()
         boot_on disks counting_images ≡ Boots start → RunsTo start events lines last end → end ≡ Schedule }
 {}
 
-/// The three that add 3, the two that sleep with the token, and the two that add 1 ten times each keep their rules at each moment, and stay alive.
+/// The three that add 3, the two that sleep with the token, and the two that add 1 ten times each keep their rules at each moment, and
+/// stay alive. Whenever nobody has the token, the word of the three is three times the number of rounds that were completed, and the word
+/// of either two is that number.
 pub fn others_keep_their_rules()
     ensures adding { (disks : Disks) (start now : Xinu) (ms : List Moment) → AreSoundDisks disks → boot_on disks adding_images ≡ Boots start →
         LeadTo start ms now → IsKept adding_lock 3 (rounds ms) now }

@@ -14,7 +14,7 @@ impl<const P: usize, const Q: usize> QueueTable<P, Q> {
     ghost use Rattle.queue_table.specs.Table.{lists};
     ghost use Rattle.queue_table.specs.Lists.{list_at, list_of, with_list, place, first_key_of, IsDelta, delta_insert, delta_sooner, all_delta_without};
 
-    /// Puts `p`, which is in no list, into the delta list of queue `q`, after all whose delay is not greater; the other
+    /// Puts `p`, which is in no list, into the list of queue `q`, a delta list, after all whose delay is not greater; the other
     /// delays stay. The delay is at least 1, in ticks from now.
     pub fn insert_delta(&mut self, p: usize, q: usize, delay: i32)
         requires p_in { p < P }
@@ -31,7 +31,7 @@ impl<const P: usize, const Q: usize> QueueTable<P, Q> {
         link_between(&mut self.entries, p, before, after, left);
     }
 
-    /// Takes `p` out of its delta list, without a search; the other delays stay. Its entry and its two neighbours'
+    /// Takes `p` out of its list, a delta list, without a search; the other delays stay. Its entry and its two neighbours'
     /// change, the one after it by the key of `p` too, and no other.
     pub fn remove_delta(&mut self, p: usize)
         requires p_in { p < P }
@@ -46,7 +46,7 @@ impl<const P: usize, const Q: usize> QueueTable<P, Q> {
         unlink(&mut self.entries, p);
     }
 
-    /// Lowers all delays of queue `q`, the first of which is at least 1, by 1.
+    /// Lowers all delays of queue `q` by 1. The list isn't empty, and its first key is at least 1.
     pub fn lower_first(&mut self, q: usize)
         requires q_in { q < Q }
         requires due { IsSomeAnd (first_key_of (list_at (lists self.old) q)) (λ k. pos 1 ≤ℤ k) }

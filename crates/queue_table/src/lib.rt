@@ -5,20 +5,7 @@
 //! lists are in `specs/Lists.antt`: `place` (the queue of a process), `IsByKey` (kept by key), `IsDelta` (a delta list, whose keys are the
 //! differences of the delays), `delays`. The insertion by key is `ready_insert` of `xinu_base`, the abstract machine's own.
 //!
-//! | Call | Condition | Promise |
-//! |---|---|---|
-//! | `new` | `size`: P + 2Q is at most 65535 | `empty`: all lists are empty; or `NoMemory`, in this call alone |
-//! | `enqueue` | `absent`: p is in no list | p is last in the list of q, with key 0 |
-//! | `insert` | the same, `by_key`: the list of q is kept by key | `ready_insert p key` of the list |
-//! | `insert_delta` | `absent`, `delta`: the list is a delta list, `later`: the delay is at least 1 | p after all whose delay isn't greater; the other delays stay |
-//! | `dequeue` | | `first`: the first process, `None` if and only if there is none; it is taken out |
-//! | `remove` | `present`: p is in a list | all lists without p; `neighbours`: only its entry and two more change |
-//! | `remove_delta` | the same, `delta` | all lists without p, the other delays as they were |
-//! | `lower_first` | `due`: there is a first key, at least 1 | each delay of the list is less by 1 |
-//! | `first`, `first_key`, `is_empty`, `place_of`, `next_after`, `key_of` | p below P, q below Q | what their names say of the list |
-//! | `links` | | the entry of the array |
-//! | `has_same_list`, `has_same_processes` | q below Q | `same`: whether the list of q is the same in another table, with its keys or without |
-//! | `clone` | | a copy has the same lists, and takes memory |
+//! In each call a process `p` is below P and a queue `q` below Q. [`QueueTable`] has the calls.
 //!
 //! After each call the entries are *linked* (clause `linked`): followed from a queue's head they give exactly its list of processes and keys,
 //! followed back from its tail the same list reversed, and no process is met in two lists. The table keeps this as a ghost fact.

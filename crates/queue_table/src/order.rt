@@ -59,7 +59,7 @@ impl<const P: usize, const Q: usize> QueueTable<P, Q> {
         }
     }
 
-    /// Takes `p` out of its list, without a search: its entry and its two neighbours' change, and no other.
+    /// Takes `p`, which is in a list, out of it, without a search: its entry and its two neighbours' change, and no other.
     pub fn remove(&mut self, p: usize)
         requires p_in { p < P }
         requires present { IsSome (place (lists self.old) p) }

@@ -14,6 +14,8 @@ use xinu_base::NoMemory;
 /// A process is the entry of its own number. The entries from P on bound the lists: P + 2q is the head of queue q, with
 /// key 2147483647 and nothing ahead of it, and P + 2q + 1 its tail, with key -2147483648 and nothing after it. If
 /// there is nothing, an entry names itself; so does a process that is in no list, both ways.
+///
+/// A clone has the same lists.
 #[derive(Drop)]
 pub struct QueueTable<const P: usize, const Q: usize> {
     /// The entries.
@@ -25,7 +27,7 @@ impl<const P: usize, const Q: usize> QueueTable<P, Q> {
     ghost use Rattle.queue_table.specs.Table.{lists};
     ghost use Rattle.queue_table.specs.Lists.{list_at, list_of, place, first_process, first_key_of, after_in, key_in};
 
-    /// A table of empty lists. This call and `clone` alone take memory.
+    /// A table of empty lists, for P and Q with P + 2Q at most 65535. This call and `clone` alone take memory.
     ///
     /// # Errors
     ///
@@ -48,7 +50,7 @@ impl<const P: usize, const Q: usize> QueueTable<P, Q> {
         Ok(QueueTable { entries })
     }
 
-    /// Entry `i`.
+    /// Entry `i` of the array, which has P + 2Q entries.
     pub fn links(&self, i: usize) -> Links
         requires i_in { i < P + 2 * Q }
         ensures entry { result ≡ slice_index_or self.now.entries.items i blank }
@@ -105,7 +107,7 @@ impl<const P: usize, const Q: usize> QueueTable<P, Q> {
         Some((at - P) / 2)
     }
 
-    /// The process after `p` in its list. `None` if and only if `p` is the last.
+    /// The process after `p`, which is in a list, in that list. `None` if and only if `p` is the last.
     pub fn next_after(&self, p: usize) -> Option<usize>
         requires p_in { p < P }
         requires present { IsSome (place (lists self.now) p) }
@@ -116,7 +118,7 @@ impl<const P: usize, const Q: usize> QueueTable<P, Q> {
         if next < P { Some(next) } else { None }
     }
 
-    /// The key of `p` in its list.
+    /// The key of `p`, which is in a list, in that list.
     pub fn key_of(&self, p: usize) -> i32
         requires p_in { p < P }
         requires present { IsSome (place (lists self.now) p) }

@@ -10,7 +10,8 @@ use std::marker::Model;
 /// How many processes there are.
 const PROCESSES: usize = 64;
 
-/// The clock of each process, and the clocks of parts that are kept.
+/// The clock of each process, and the clocks of parts that are kept. Each process is a number below 64, and each name one below the count
+/// of kept clocks.
 #[derive(Drop)]
 pub struct Clocks {
     knows: Vec<[u32; 64]>,
@@ -70,7 +71,7 @@ impl Clocks {
         self.kept.len()
     }
 
-    /// Joins what `v` knows with the clock of this name.
+    /// Joins what `v` knows with the clock of this name (`join` of `happens_before`).
     pub fn learn(&mut self, v: usize, name: usize)
         requires v_in { v < 64 }
         requires name_in { name < count self.old }
@@ -81,7 +82,7 @@ impl Clocks {
         self.knows[v] = joined(&self.knows[v], &self.kept[name]);
     }
 
-    /// Keeps the clock of `u`'s part in event `n`, and answers its name.
+    /// Keeps the clock of `u`'s part in event `n` (`own` of `happens_before`) under a new name, and answers that.
     ///
     /// # Errors
     ///
@@ -101,7 +102,7 @@ impl Clocks {
         Ok(name)
     }
 
-    /// Keeps the clock of `u`'s part in event `n` under a name, in place of the clock that had it.
+    /// Keeps the clock of `u`'s part in event `n` under a name, in place of the clock that had it. It takes no memory.
     pub fn keep_as(&mut self, name: usize, n: u32, u: usize)
         requires name_in { name < count self.old }
         requires u_in { u < 64 }

@@ -11,7 +11,7 @@ use std::marker::Model;
 /// How many bytes RAM has.
 const BYTES: usize = 1_048_576;
 
-/// The entries of each byte.
+/// The entries of each byte of RAM. A call names a byte by its address, which is below 1048576.
 #[derive(Drop)]
 pub struct Entries {
     bytes: Vec<ByteEntries>,
@@ -61,7 +61,7 @@ impl Entries {
         self.bytes[byte].entry(i)
     }
 
-    /// The last store of a byte by a process, or the last load, since the byte was given. `None` if there is none.
+    /// The last store of a byte by a process, or the last load if not `stores`, since the byte was given. `None` if there is none.
     pub fn last(&self, stores: bool, byte: usize, process: u8) -> Option<Entry>
         requires byte_in { byte < 1048576 }
         ensures last { result ≡ last self.now stores byte process }
@@ -83,7 +83,7 @@ impl Entries {
         self.bytes[byte].enter(entry)
     }
 
-    /// So many bytes get a new owner: they have no entry.
+    /// So many bytes from the first on, all of them in RAM, get a new owner: they have no entry. It takes no memory.
     pub fn give(&mut self, first: usize, count: usize)
         requires bytes_in { first + count ≤ 1048576 }
         ensures given { (stores : Bool) (b u : ℕ) →

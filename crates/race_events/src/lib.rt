@@ -1,10 +1,5 @@
-//! The data races of a run: its events are told to a detector, with what each does with memory and what it orders.
-//!
-//! | Call | Promise |
-//! |---|---|
-//! | [`Watcher::new`] | of no event; or memory ran out |
-//! | [`Watcher::ahead`], [`Watcher::after`] | ahead of an event and once it was taken: its edges and its deeds are told to the detector; or memory ran out |
-//! | [`Watcher::told`] | the pairs of accesses that race, as far as they are told |
+//! The data races of a run: its events are told to a detector, with what each does with memory and what it orders. A [`Watcher`] is told
+//! ahead of each event and once it was taken.
 //!
 //! The rules by which an event orders processes are those of `edges_in` of `data_races`, and the ledger is its `Ledger`, with the names of kept
 //! clocks in place of parts. That this is so isn't proved yet: the detector alone is (`race_detector`).

@@ -44,7 +44,7 @@ impl Watcher {
         })
     }
 
-    /// What is told so far, in the order in which it was told.
+    /// The pairs of accesses that race, as far as the detector told of them, in the order in which it did.
     pub fn told(&self) -> &[Pair] {
         self.detector.told()
     }
@@ -54,7 +54,7 @@ impl Watcher {
         self.number = self.number.saturating_add(steps);
     }
 
-    /// An event comes next, in this state.
+    /// An event comes next, in this state. What is needed of the state is kept for [`Watcher::after`].
     ///
     /// # Errors
     /// Out of memory.
@@ -74,7 +74,7 @@ impl Watcher {
         Ok(())
     }
 
-    /// It was taken, and led to this state.
+    /// The event of which [`Watcher::ahead`] was told was taken, and led to this state. The detector is told of its edges and its deeds.
     ///
     /// # Errors
     /// Out of memory.

@@ -1,14 +1,8 @@
 //! The runs of a program with each placement of quantum ends.
 //!
-//! A run of a machine through given events has an outcome (`specs/Runs.antt`). The search goes through all placements, each by a run on copies
-//! of the disks, and `specs/Explored.antt` says that its table is that of these runs. A placement changes the front of the events alone: of
-//! placements that lead to equal machines the back is run once, if it is long (`specs/Remainders.antt`).
-//!
-//! | Call | Promise |
-//! |---|---|
-//! | [`explore`] | `explores`: there is a run for each placement, in their order, that has the outcome that is counted for it, and the table is that of these runs; after a fault, of the first of them; `forced`: `true` only if nothing is chosen in any of them, so that there are no other runs; `cause`: the images don't boot as the fault says |
-//! | [`Progress`] | is told of each placement that was gone through; [`Silent`] says nothing |
-//! | [`laws`] | if nothing is chosen in the run of a placement, every run of it has its row; if one row is left, and the search said that nothing was chosen, every run of each placement has its outcome |
+//! A run of a machine through given events has an outcome (`specs/Runs.antt`). [`explore`] goes through all placements, each by a run on
+//! copies of the disks, and `specs/Explored.antt` says that its table is that of these runs. A placement changes the front of the events
+//! alone: of placements that lead to equal machines the back is run once, if it is long (`specs/Remainders.antt`).
 //!
 //! Nothing is chosen in a run that makes no call on files: no event prints a line of one, and none is under way between two events. That is
 //! looked at while the run is taken (`specs/Forced.antt`), and of a back that several runs share once.

@@ -27,9 +27,13 @@ const SETTLING: usize = 4096;
 // How many events are worth the copy and the comparison of a machine.
 const LONG: usize = 32768;
 
-/// Runs the images on these disks through the base's events with each placement of at most `most` quantum ends in a stretch of its steps, in
-/// their order, and puts the outcomes into a table that is empty before. The progress is told of each that was gone through. Answers whether nothing
-/// was chosen in them, so that there are no other runs.
+/// Runs the images on these disks through the base's events with each placement of at most `most` quantum ends in a stretch of its steps,
+/// in their order, and puts the outcomes into a table that is empty before. The outcome that is counted for a placement is that of a run of
+/// the abstract machine. The progress is told of each that was gone through. The answer is `true` only if nothing was chosen in any of
+/// them, so that there are no other runs.
+///
+/// There are one to eight images, at most 999999994 events, and at most three quantum ends, and the last place of the stretch is at most
+/// 1000000.
 ///
 /// # Errors
 /// `Overlap` and `NoRoom` if and only if the images don't boot; `NoMemory`. The table is that of the placements so far.

@@ -15,7 +15,7 @@ pub fn rows_differ()
     ensures { (runs : List Run) → AllPairs (λ one other. one.outcome ≢ other.outcome) (rows runs) }
 {}
 
-/// Each row counts the runs with its outcome.
+/// Each row counts the runs with its outcome, and the counts add up to the number of runs.
 pub fn rows_count()
     ensures each { (runs : List Run) → All (λ row. row.count ≡ count_by (λ run. are_equal row.outcome run.outcome) runs) (rows runs) }
     ensures all { (runs : List Run) → sum (map (λ row. row.count) (rows runs)) ≡ length runs }

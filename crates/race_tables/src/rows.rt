@@ -66,7 +66,8 @@ impl Row {
     }
 }
 
-/// Counts a run after others in their table.
+/// Counts a run after others in their table: its outcome, and the placement of its quantum ends. The runs before it must be fewer than the
+/// greatest `u64`.
 ///
 /// # Errors
 /// Out of memory; the table stays.

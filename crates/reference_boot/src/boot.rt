@@ -1,4 +1,4 @@
-//! Boot: the images are in RAM, their first processes are made, and become ready (book, chapter 22).
+//! Boot: the images are in RAM, their first processes are made in order, and become ready with one resched (book, chapter 22).
 
 ghost use Rattle.std.specs.Prelude.{◌≡◌, ◌≤◌, ◌<◌, IfOk, IfErr, None, [], length, map, replicate};
 ghost use Rattle.image_loader.specs.Images.{loaded_of};
@@ -32,6 +32,7 @@ pub enum NoStart {
 }
 
 /// The start of the machine with some images, which are numbered from 1 on, on disks that it is given. There are at most eight images.
+/// Nothing was asked of the disks yet: the raw disk has no request, and no device has a file open.
 pub fn boot_on(
     alloc: Global,
     images: &[Image<'_>],

@@ -1,4 +1,4 @@
-//! What the machine has before any image is loaded (book, chapter 22).
+//! The tables, ports, console and heap that the machine has before any image is loaded (book, chapter 22).
 
 ghost use Rattle.std.specs.Prelude.{◌≡◌, ◌≤◌, ◌++◌, IfOk, replicate};
 ghost use Rattle.xinu_model.specs.Boot as model;

@@ -1,4 +1,4 @@
-//! The clock: who sleeps, and what a tick does (book, chapter 13).
+//! The clock: who sleeps, and what a tick does (book, chapter 13). The calls are `yield`, `sleep`, `sleepms` and `clktime`.
 
 ghost use Rattle.std.specs.Prelude.{◌≡◌, ◌≤◌, ◌<◌, IfOk, is_ok, true};
 ghost use Rattle.reference_state.specs.Answers.{came_to, IsStart};

@@ -1,4 +1,4 @@
-//! New processes: number, stack, registers and name (book, chapters 4 to 6).
+//! New processes: number, stack, registers and name (book, chapters 4 to 6). The call is `create`.
 
 ghost use Rattle.std.specs.Prelude.{◌≡◌, ◌≤◌, IfOk, IfSome, IfNone, Some, None, take, drop, slice_set, true, false, ◌++◌, length, replicate};
 ghost use Rattle.reference_state.specs.Answers.{came_to, IsStart};

@@ -1,4 +1,5 @@
-//! How a process dies: what is left of its stack, its number, its registers, and of what it asked of disks (book, chapter 5).
+//! How a process dies: what is left of its stack, its number, its registers, and of what it asked of disks (book, chapter 5). The calls are
+//! `kill` and `exit`.
 
 ghost use Rattle.std.specs.Prelude.{◌≡◌, IfOk};
 ghost use Rattle.reference_state.specs.Answers.{came_to, IsStart};

@@ -3,22 +3,8 @@
 //!
 //! A call is a function over the state inside an event, named as its definition and in the definition's order; its promise is that
 //! what it came to is the definition's result: `came_to m.new answer`. A call that the book says is refused answers -1 and changes
-//! nothing. The words of a call are as the process gave them, signed or not as the definition reads them.
-//!
-//! | File | Calls | What else it has |
-//! |---|---|---|
-//! | [`processes`] | `getpid`, `resume`, `suspend`, `chprio`, `getprio` | [`processes::go_on_suspend`] |
-//! | [`creation`] | `create` | number, stack, registers and name of a new process |
-//! | [`death`] | `kill`, `exit` | what a death does to each part of the state |
-//! | [`clock`] | `yield`, `sleep`, `sleepms`, `clktime` | [`clock::ticked`] |
-//! | [`memory_calls`] | `getmem`, `freemem`, `getstk`, `freestk` | the same of the machine's heap for those who take memory within a call |
-//! | [`semaphores`] | `semcreate`, `semdelete`, `semreset`, `semcount`, `wait`, `signal`, `signaln` | |
-//! | [`messages`] | `send`, `receive`, `recvclr`, `recvtime` | [`messages::go_on_receive`] |
-//! | [`dispatch`] | these by their numbers | what is left of them |
-//! | [`steps`] | | one instruction, the call that registers ask for, and the two ways in which an instruction ends a process |
-//! | [`words`] | | words of calls as numbers |
-//! | `heap`, `cells` | | memory and stacks of a heap, taken and given back: a list of cells of eight bytes, each free or taken, so a search looks at one start after another |
-//! | `requests`, `harts` | | what a process that was killed asked of disks, and the registers of a process |
+//! nothing. The words of a call are as the process gave them, signed or not as the definition reads them. [`dispatch`] finds a call by its
+//! number.
 //!
 //! Each call begins as an event does (`start`: `IsStart`). Two conditions hold in each run: a tick to come fits its word (`few`,
 //! `few_ticks`), as the ticks so far are at most 2147483647; and at most 64 processes wait on a semaphore whose count is asked for

@@ -1,4 +1,5 @@
-//! The calls on the heap (book, chapter 9).
+//! The calls on the heap, `getmem`, `freemem`, `getstk` and `freestk`, and the same of the machine's heap for those who take memory within
+//! a call (book, chapter 9).
 
 ghost use Rattle.std.specs.Prelude.{◌≡◌, ◌*◌, ◌≤◌, IfOk, IfSome, IfNone, Some, None, if◌then◌else◌, is_ok, true, unwrap_or};
 ghost use Rattle.reference_calls.specs.Heaps.{with_heap};

@@ -1,4 +1,5 @@
-//! Messages: each process has a slot for one word (book, chapter 8).
+//! Messages: each process has a slot for one word (book, chapter 8). The calls are `send`, `receive`, `recvclr` and `recvtime`; what is
+//! left of those that wait is here too.
 
 ghost use Rattle.std.specs.Prelude.{◌≡◌, ◌≤◌, IfOk, None};
 ghost use Rattle.reference_state.specs.Answers.{came_to, IsStart};

@@ -1,4 +1,5 @@
-//! Processes: how they are resumed, suspended and given priorities (book, chapters 5 and 6).
+//! Processes: how they are resumed, suspended and given priorities, and what is left of a `suspend` of the caller itself (book, chapters 5
+//! and 6). The calls are `getpid`, `resume`, `suspend`, `chprio` and `getprio`.
 
 ghost use Rattle.std.specs.Prelude.{◌≡◌, IfOk, is_ok, true};
 ghost use Rattle.reference_state.specs.Answers.{came_to, IsStart};

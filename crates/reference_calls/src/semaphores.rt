@@ -1,4 +1,5 @@
-//! Semaphores: tokens, and the processes that wait for one (book, chapter 7).
+//! Semaphores: tokens, and the processes that wait for one (book, chapter 7). The calls are `semcreate`, `semdelete`, `semreset`,
+//! `semcount`, `wait`, `signal` and `signaln`.
 
 ghost use Rattle.std.specs.Prelude.{◌≡◌, ◌≤◌, ◌+ℤ◌, IfOk, int_lt, is_ok, length, pos, true};
 ghost use Rattle.reference_state.specs.Answers.{came_to, IsStart};

@@ -1,4 +1,5 @@
-//! One instruction of the current process, and how it ends a process (book, chapters 4 and 5).
+//! One instruction of the current process, the call that its registers ask for, and the two ways in which an instruction ends a process
+//! (book, chapters 4 and 5).
 
 ghost use Rattle.std.specs.Prelude.{◌≡◌, IfOk};
 ghost use Rattle.reference_state.specs.Answers.{IsStart};

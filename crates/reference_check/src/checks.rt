@@ -20,7 +20,7 @@ use std::alloc::Global;
 use xinu_base::NoMemory;
 
 /// Whether a text is the transcript of a run that starts with these images on the disks of these images, and goes through these events.
-/// There are at most eight images of programs. The disks stay as they are.
+/// There are at most eight images of programs, and at most 1,000,000,000 events. The disks stay as they are.
 ///
 /// # Errors
 /// `Overlaps` if and only if an image of a program overlaps an earlier one; else `NoRoom` if and only if the heap has no stack for one;

@@ -1,6 +1,6 @@
-//! What a text tells of the choice in the event with which it begins. A text is asked only in an event that leaves a choice: one in which
-//! a call on files is made and no other is under way, or in which the disk with files completes well. So whatever the text is, an event
-//! that prints nothing reads nothing of it.
+//! What a text tells of the choice in the event with which it begins: how many calls on files take effect. A text is asked only in an event
+//! that leaves a choice: one in which a call on files is made and no other is under way, or in which the disk with files completes well. So
+//! whatever the text is, an event that prints nothing reads nothing of it.
 
 ghost use Rattle.std.specs.Prelude.{◌≡◌, ◌≤◌, Some, None, MatchOption, length};
 ghost use Rattle.reference_check.specs.Places as places;

@@ -1,4 +1,4 @@
-//! An event of any kind, along a text.
+//! An event of any kind, along a text, and the lines of the tables.
 
 ghost use Rattle.std.specs.Prelude.{◌≡◌, IfOk, false};
 ghost use Rattle.reference_state.specs.Answers.{IsStart};

@@ -10,18 +10,6 @@
 //! there is one machine state and one place in the text. The one thing that events leave open, how many calls on files take effect, is an
 //! argument of an event, and it is told by the text itself (`transcript_laws`).
 //!
-//! | File | What it has |
-//! |---|---|
-//! | `checks` | [`check_trace`]: the machine starts with the images, and the text is read along its run |
-//! | `driver` | one machine, one place in the text, event by event |
-//! | `choices` | what a text tells of the calls on files that take effect in the event with which it begins |
-//! | `reading` | bytes and lines are taken off the front of a text |
-//! | `events` | an event of any kind, along a text, and the lines of the tables |
-//! | `steps` | a machine step: an instruction, or what is left of a call |
-//! | `calls` | the calls by their families, and what is left of those that waited |
-//! | `file_calls`, `file_notes` | calls on files inside an event: how they are made, and how they take effect |
-//! | `machines` | the calls on files that are under way, and whether no process but the null process is left |
-//!
 //! [`take`], [`lines_of`], [`is_over`] and [`after_line`] are for other readers of a text along a run (`trace_places`).
 //!
 //! Each function on the machine is a definition of `specs/Events.antt` in `xinu_model`, over its state as plain data (`reference_state`). An

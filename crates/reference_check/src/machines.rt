@@ -1,4 +1,5 @@
-//! What is asked of the machine between two events, besides the next event and the tables.
+//! What is asked of the machine between two events, besides the next event and the tables: the calls on files that are under way, and
+//! whether no process but the null process is left.
 
 ghost use Rattle.std.specs.Prelude.{◌≡◌};
 ghost use Rattle.std.specs.List.{list_all};

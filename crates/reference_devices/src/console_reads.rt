@@ -29,7 +29,7 @@ pub fn console_getc(m: &mut Machine) -> Result<Answer, NoMemory>
     }
 }
 
-/// It goes on by the token that it waited for.
+/// A `getc` goes on by the token that it waited for.
 pub fn go_on_getc(m: &mut Machine) -> Result<Answer, NoMemory>
     requires start { IsStart m.old }
     ensures goes_on { IfOk result (λ a. came_to m.new a ≡ model.go_on_getc m.old.state) }

@@ -31,7 +31,7 @@ pub fn console_putc(m: &mut Machine, b: u8) -> Result<Answer, NoMemory>
     put_last(m, b)
 }
 
-/// It goes on by the token that it waited for: the newline after its carriage return, or the byte.
+/// A `putc` goes on by the token that it waited for: the newline after its carriage return, or the byte.
 pub fn go_on_putc(m: &mut Machine, b: u8, returned: bool) -> Result<Answer, NoMemory>
     requires start { IsStart m.old }
     ensures goes_on { IfOk result (λ a. came_to m.new a ≡ model.go_on_putc b returned m.old.state) }

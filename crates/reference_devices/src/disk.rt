@@ -61,7 +61,7 @@ pub fn disk_control(m: &Machine, f: u32) -> Answer
     Answer::Returns(SYSERR)
 }
 
-/// The caller goes on with the reply that was kept for it.
+/// The caller of `read` or `write` goes on with the reply that was kept for it.
 pub fn go_on_disk(m: &mut Machine, reply: Option<i32>) -> Result<Answer, NoMemory>
     requires start { IsStart m.old }
     ensures goes_on { IfOk result (λ a. came_to m.new a ≡ model.go_on_disk reply m.old.state) }

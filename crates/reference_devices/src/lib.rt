@@ -4,21 +4,9 @@
 //! what it came to is the definition's result: `came_to m.new answer`. An event is a function that answers what is printed, and its promise
 //! is the definition's `EventResult`. A call that the book says is refused answers -1 and changes nothing.
 //!
-//! | File | What it has |
-//! |---|---|
-//! | `receiving`, `echo` | the console by itself: a received character, and what is echoed |
-//! | `controls`, `transmitting` | a control function, and a transmission |
-//! | [`console_signals`] | `control`, [`console_signals::keyed`] and [`console_signals::transmits`] |
-//! | [`console_reads`] | `getc` and `read`, and what is left of them |
-//! | [`console_writes`] | `putc` and `write`, and what is left of them |
-//! | [`disk`] | `read`, `write` and `control` of the raw disk, what is left of them, and [`disk::disk_completes`] |
-//! | [`names`] | 44 `mount`, and what a name is mapped to |
-//! | [`texts`] | texts in RAM |
-//! | `ranges`, `silence`, `constants` | a range of RAM, an event in which nothing happens, and the console's constants |
-//!
-//! Each begins as an event does (`start`: `IsStart`). What else one needs holds in each run: the console fits those who wait for it
-//! (`console`), a span that is left of a call lies in RAM (`span`), the raw disk is sound (`sound`). Out of memory is the only refusal by
-//! the code.
+//! Each call and each event begins as an event does (`start`: `IsStart`). What else one needs holds in each run: the console fits those
+//! who wait for it (`console`), a span that is left of a call lies in RAM (`span`), the raw disk is sound (`sound`). Out of memory is the
+//! only refusal by the code.
 #![tactic(auto)]
 
 pub mod console_reads;

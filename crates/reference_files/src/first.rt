@@ -1,4 +1,4 @@
-//! The first of the calls: who becomes it, and what happens as it takes effect.
+//! The first of the calls under way: who becomes it, with the bytes of its write, and what happens as it takes effect.
 
 ghost use Rattle.std.specs.Prelude.{◌≡◌, ◌≤◌, ◌+◌, IfOk};
 ghost use Rattle.reference_files.specs.Steps.{IsPut, step_of};

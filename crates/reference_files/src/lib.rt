@@ -8,19 +8,8 @@
 //!
 //! How many calls take effect at a completion, and whether one takes effect as it is made, is the machine's one free choice; here it is an
 //! argument, so whoever runs the machine chooses, or reads the choice from a transcript. A clause sees the calls, RAM and what has happened
-//! in the event as the record `FileStep` of the definitions (`step_of`).
-//!
-//! | File | Its functions |
-//! |---|---|
-//! | `stored` | files by their names: which has a name, one more in its place, another content, one less |
-//! | `systems` | what a device has open, which device is free, and the bytes of an open file |
-//! | `room` | how many blocks files need and a disk has, and how much of a write fits |
-//! | `opening`, `reading`, `writing` | the ten calls: [`open_file`], [`close_file`], [`delete_file`]; [`read_file`], [`getc_file`], [`seek_file`], [`size_of_file`]; [`write_file`], [`putc_file`], [`truncate_file`] |
-//! | `calls` | the effect of a call: [`file_effect`] |
-//! | `bounds` | the bound: after how many good completions a call takes effect at the latest ([`most_turns`], [`least_effects`]) |
-//! | `first` | who becomes the first of the calls under way, with the bytes of its write, and what happens as the first takes effect |
-//! | `work` | a call is made ([`issued`]), the disk completes ([`calls_completed`]) |
-//! | `laws` | sound files on a disk as it is are few and small: [`laws::sound_files_are_small`] |
+//! in the event as the record `FileStep` of the definitions (`step_of`). [`issued`] makes a call, [`calls_completed`] is a completion of
+//! the disk, and [`file_effect`] is the effect of each of the ten calls.
 //!
 //! Out of memory is the only refusal (`NoMemory`). What counts has a condition that holds in each run: `small`, that files are as few and as
 //! small as on a disk and that no position is beyond the end of its file; `few`, that the bytes of a write are no more than RAM has;

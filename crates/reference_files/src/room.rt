@@ -1,4 +1,4 @@
-//! How much room files have on a disk. No block is named here.
+//! How much room files have on a disk: how many blocks they need and it has, and how much of a write fits. No block is named here.
 
 ghost use Rattle.std.specs.Prelude.{◌≡◌, ◌≤◌, length};
 ghost use Rattle.reference_files.specs.Sizes as sizes;

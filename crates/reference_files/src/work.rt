@@ -1,4 +1,4 @@
-//! Calls on files under way, one at a time in the order in which they were made.
+//! Calls on files under way, one at a time in the order in which they were made: how one is made, and what a completion of the disk does.
 
 ghost use Rattle.std.specs.Prelude.{◌≡◌, ◌≤◌, [], IfOk, IsSome, List, ℕ};
 ghost use Rattle.reference_files.specs.Steps.{step_of};
@@ -64,7 +64,8 @@ fn turned(w: &mut FileWork, notes: &mut Vec<FileNote>) -> Result<(), NoMemory>
     push(notes, note)
 }
 
-/// A call is made: it waits, or takes effect at once, which only one that becomes the first may do.
+/// A call is made: it waits, or takes effect at once, which only one that becomes the first may do. `choice` is how many take effect at
+/// once: 0 if others are under way, else 0 or 1. The call is sound and has a caller, its bytes are in RAM, and there are no notes before.
 pub fn issued(
     w: &mut FileWork,
     memory: &mut Ram,

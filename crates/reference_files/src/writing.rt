@@ -1,4 +1,4 @@
-//! Writing a file (book, chapter 19, `lflwrite.c`, `lflputc.c`, `lftruncate.c`).
+//! Writing and emptying a file (book, chapter 19, `lflwrite.c`, `lflputc.c`, `lftruncate.c`).
 
 ghost use Rattle.std.specs.Prelude.{◌≡◌, ◌+◌, ◌≤◌, [], IfOk, length};
 ghost use Rattle.reference_files.specs.Effects.{left};

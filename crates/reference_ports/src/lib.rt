@@ -3,15 +3,7 @@
 //! A call is a function over the state inside an event, named as its definition and in the definition's order; its promise is that
 //! what it came to is the definition's result: `came_to m.new answer`. A call that the book says is refused answers -1 and changes nothing.
 //!
-//! | File | What it has |
-//! |---|---|
-//! | `buffers` | which addresses are buffers of a pool, and which pool has one |
-//! | [`new_pools`] | `mkbufpool` |
-//! | [`pools`] | `getbuf`, `freebuf`, and [`pools::go_on_getbuf`] |
-//! | `queues` | the queue of a port: its messages, how many all ports hold, and whether a ticket is stale |
-//! | `port_changes` | what changes the ports: one is made, deleted, emptied, or has other messages |
-//! | [`ports`] | `ptcreate`, `ptdelete`, `ptreset`, `ptsend`, `ptrecv`, [`ports::go_on_ptsend`] and [`ports::go_on_ptrecv`] |
-//! | [`dispatch`] | these by their numbers |
+//! The calls are in [`new_pools`], [`pools`] and [`ports`], and [`dispatch`] finds them by their numbers.
 //!
 //! Each call begins as an event does (`start`: `IsStart`). What else a call needs holds in each run: the tables, the pools or the ports are
 //! sound as the laws on the abstract machine say (`sound`, `pools`, `ports`), and no port has the greatest number (`numbers`), as a port is

@@ -1,4 +1,4 @@
-//! New buffer pools (book, chapter 10).
+//! New buffer pools: `mkbufpool` (book, chapter 10).
 
 ghost use Rattle.std.specs.Prelude.{◌≡◌, ◌≤◌, ◌+◌, ◌*◌, ◌++◌, ◌∷◌, [], IfOk, IfSome, IfNone, Some, None, nat_lt, if◌then◌else◌, length};
 ghost use Rattle.reference_calls.specs.Heaps.{with_heap};

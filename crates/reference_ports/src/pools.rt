@@ -1,4 +1,4 @@
-//! Buffer pools: buffers of one size that processes take and give back (book, chapter 10).
+//! Buffer pools: buffers of one size that processes take and give back, with `getbuf` and `freebuf` (book, chapter 10).
 
 ghost use Rattle.std.specs.Prelude.{◌≡◌, ◌≤◌, ◌<◌, ◌-◌, ◌∷◌, [], IfOk, IfSome, MatchOption, Some, None, nat_lt, if◌then◌else◌, int_lt, true, length, drop, slice_set};
 ghost use Rattle.reference_ports.specs.FreeBuffers.{HasOwnFree};

@@ -1,4 +1,5 @@
-//! Ports: queues of messages with a bound on how many wait in each (book, chapter 11).
+//! Ports: queues of messages with a bound on how many wait in each (book, chapter 11). The calls are `ptcreate`, `ptdelete`, `ptreset`,
+//! `ptsend` and `ptrecv`, and what is left of the last two when their callers waited.
 
 ghost use Rattle.std.specs.Prelude.{ℕ, ◌≡◌, ◌<◌, ◌≤◌, ◌+◌, IfOk, Some, is_ok, length, true};
 ghost use Rattle.reference_ports.specs.Heads.{queue_with};

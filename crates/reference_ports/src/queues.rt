@@ -1,4 +1,4 @@
-//! The queue of a port: what it has, and how many messages all ports hold (book, chapter 11).
+//! The queue of a port: its messages, how many all ports hold, and whether the port of a call was renewed since (book, chapter 11).
 
 ghost use Rattle.std.specs.Prelude.{◌≡◌, ◌≤◌, ◌++◌, ◌∷◌, [], IfOk, IfSome, MatchOption, Some, None, nat_le, length};
 ghost use Rattle.reference_ports.specs.Heads.{is_other, queue_with};

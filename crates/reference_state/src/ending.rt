@@ -1,4 +1,4 @@
-//! The end of an event: the one resched, the replies, and what is printed (book, chapters 5 and 6).
+//! The end of an event: the one resched, the replies, and what is printed, as data (book, chapters 5 and 6).
 
 ghost use Rattle.std.specs.Prelude.{◌≡◌, ◌∷◌, [], IfOk, ◌++◌, map, false};
 ghost use Rattle.reference_state.specs.Answers.{came_to, IsStart};

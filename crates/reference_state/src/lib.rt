@@ -6,14 +6,6 @@
 //! heap, the pools and the bytes of requests lie in RAM, and no count is above the greatest of a semaphore. The one condition is that an
 //! event begins with no replies and no resched owed (`start`: `IsStart`), which is how the event before left it.
 //!
-//! | File | What it has |
-//! |---|---|
-//! | `heap`, `pools`, `ports`, `console`, `raw_disk`, `names`, `files` | the parts of the state besides the tables, as data |
-//! | `machine` | the state, and the moves: who becomes ready later, who is released, how a caller blocks and goes on |
-//! | `waiting` | what a signal does to those who wait, and a wait to its caller |
-//! | `messages` | how a message comes to a process |
-//! | `ending` | the end of an event: the one resched, the replies, and its lines as data |
-//!
 //! A call answers an [`Answer`]; `came_to` in `specs/Answers.antt` is the definition's result of that and of the state that it left. What
 //! an event printed is [`Happened`]. Out of memory is the only refusal. A signal has the condition `room`: the count of the semaphore
 //! stays within the greatest.

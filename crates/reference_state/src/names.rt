@@ -1,4 +1,4 @@
-//! The name space (book, chapter 20).
+//! The name space (book, chapter 21).
 
 use std::marker::Model;
 use xinu_base::Dev;

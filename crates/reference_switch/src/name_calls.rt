@@ -1,4 +1,4 @@
-//! The call on the name space (book, chapter 21).
+//! The call on the name space, `mount` (book, chapter 21).
 
 ghost use Rattle.std.specs.Prelude.{◌≡◌, IfOk};
 ghost use Rattle.reference_state.specs.Answers.{IsStart};

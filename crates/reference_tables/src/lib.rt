@@ -8,15 +8,6 @@
 //! A clause sees `Tables` as the record `Tables` of `specs/Tables.antt` in `xinu_model`, so each promise is one equation. An entry that
 //! isn't there reads as the definition's fixed value, and writing it does nothing. Out of memory is the only refusal (`NoMemory`), and it
 //! comes only from a list that grows. What counts upwards has a condition: `few` of a tick, that the ticks so far don't fill their word.
-//!
-//! | File | Its functions |
-//! |---|---|
-//! | `lists` | lists of processes: who leaves, and the two insertions, by key and by wake tick |
-//! | `tables` | an entry of the process table, a message, and the one move that all calls make: [`Tables::move_to`] |
-//! | `semaphores` | the owner, the tokens and the waiters of a semaphore, and its count |
-//! | `scheduling` | who becomes ready, and who runs: [`Tables::make_ready`], [`Tables::resched`] |
-//! | `searches` | the free number that the next process, or the next semaphore, gets |
-//! | `clock` | who is due at a tick, and what a tick does to the tables |
 #![tactic(auto)]
 
 mod clock;

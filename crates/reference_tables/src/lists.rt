@@ -1,4 +1,5 @@
-//! Lists as the definitions read and change them: an entry that isn't there reads as a fixed value, and writing it does nothing.
+//! Lists as the definitions read and change them: an entry that isn't there reads as a fixed value, and writing it does nothing. Of lists
+//! of processes: who leaves them, and the two insertions, by key and by wake tick.
 
 ghost use Rattle.std.specs.Prelude.{◌≡◌, not, filter, slice_index_or, slice_set, IfOk, int_lt, nat_le, ◌++◌, ◌∷◌, []};
 ghost use Rattle.xinu_base.specs.Insert.{ready_insert, sleeper_insert};

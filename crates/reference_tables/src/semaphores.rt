@@ -1,4 +1,4 @@
-//! Semaphores: the owner, the tokens and the waiters of each (book, chapter 7).
+//! Semaphores: the owner, the tokens and the waiters of each, and its count (book, chapter 7).
 
 ghost use Rattle.std.specs.Prelude.{◌≡◌, ◌≤◌, IfOk, []};
 ghost use Rattle.xinu_model.specs.Tables as model;

@@ -1,4 +1,5 @@
-//! The tables as one value, and how a process moves (book, chapters 4 to 8 and 13).
+//! The tables as one value: an entry of the process table, a message, and the one move that all calls make (book, chapters 4 to 8
+//! and 13).
 
 ghost use Rattle.std.specs.Prelude.{◌≡◌, IfOk, IfNone, nat_lt, slice_set, Some, None, if◌then◌else◌};
 ghost use Rattle.xinu_model.specs.Tables as model;

@@ -18,7 +18,7 @@ use kernel_state::KernelState;
 use std::alloc::AllocError;
 use xinu_base::{Call, Op};
 
-/// Why a call that the current process makes in a state is answered -1 in its event. `None` if and only if it isn't.
+/// Why a call that the current process makes in a sound state is answered -1 in its event. `None` if and only if it isn't.
 ///
 /// # Errors
 /// Out of memory, for copies of the heap's records, of the pools or of the mounted prefixes.

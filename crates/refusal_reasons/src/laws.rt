@@ -22,8 +22,8 @@ ghost use Rattle.xinu_model.specs.Sound.Ports.{ArePorts};
 ghost use Rattle.xinu_model.specs.Sound.Tables.{IsSoundTables};
 ghost use Rattle.xinu_model.specs.Tables.{process_at};
 
-/// A call is answered -1 in its event if and only if it has a reason, which is that of the first of its causes that holds. The reason can be
-/// read off the state ahead of the event.
+/// A call of any number, with any arguments, is answered -1 in its event if and only if it has a reason, which is that of the first of
+/// its causes that holds. The reason can be read off the state ahead of the event.
 pub fn refusals_have_reasons()
     ensures calls { (number : ℕ) (args : List ℕ) (s : Xinu) → IsSoundTables s.tables → ArePools s.tables s.parts.pools →
         ArePorts s.tables s.parts.ports → ((called number args s).answer ≡ Returns SYSERR ↔ IsSome (reason number args s)) }

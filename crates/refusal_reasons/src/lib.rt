@@ -5,14 +5,7 @@
 //! [`Reason`]. The reason of a call (`reason`, `specs/Reasons.antt`) is that of the first of its row's causes that holds. A value that is -1, a
 //! priority, a count or a message, is a reason of its own.
 //!
-//! | Law or call | Promise |
-//! |---|---|
-//! | [`laws::refusals_have_reasons`] | `calls`: a call of any number, with any arguments, is answered -1 in its event if and only if it has a reason; `first`: the first of its causes that holds gives it; `ahead`: it can be read off the state ahead of the event |
-//! | [`laws::later_refusals_have_reasons`] | `calls`: the same of what is left of a call that waited, as it goes on; `ahead`: it goes on in the state ahead of the event |
-//! | [`laws::refused_effects_have_reasons`] | the same of a call on files as it takes effect, and of a completion of the raw disk |
-//! | [`reason_of`] | `reason`: the reason of a call in a state, or memory ran out |
-//! | [`later_reason_of`] | `reason`: the later reason of what is left of the current process's call in a state |
-//! | [`Reason::words`] | the reason in plain English |
+//! [`reason_of`] and [`later_reason_of`] compute the reasons in a state of the kernel, and [`laws`] has the proof.
 //!
 //! A call that waits is answered later: it has no reason in its event. The later reasons are in `specs/Later.antt`.
 #![tactic(auto)]

@@ -8,8 +8,9 @@ use itoa::Buffer;
 use run_inputs::{Cause, Refusal};
 use std::alloc::{AllocError, Global};
 
-/// What a cause means, in a line or two; empty for one whose own text says it. `usage` has the words of the command, which are shown if its
-/// arguments are wrong.
+/// What a cause means, in a line or two: what is wrong with the words of a command, which file can't be read or written, or what its
+/// refusal means. It is empty for a cause whose own text says it. `usage` has the words of the command, which are shown if its arguments
+/// are wrong.
 ///
 /// # Errors
 /// Out of memory.

@@ -10,16 +10,8 @@
 //! A value that is -1, a priority, a count or a message, is no refusal. A call on files that is refused as it takes effect is told as its caller
 //! goes on; one that takes effect as it is made isn't told.
 //!
-//! | Call | Promise |
-//! |---|---|
-//! | [`RefusedCalls::new`] | `none`: none so far |
-//! | [`RefusedCalls::note`] | `noted`: the calls are added that are refused in the event that comes next, by the state ahead of it (`refused_in`), or memory ran out |
-//! | [`RefusedCalls::as_slice`] | `calls`: the refused calls so far |
-//! | [`kinds_of`] | `kinds`: the kinds of them, each with its first call and how many there are, or memory ran out |
-//! | [`each_of`] | `each`: each of them by itself |
-//!
-//! A clause sees [`RefusedCalls`] as their list. That of a run is `refusals_of` in `specs/Refusals.antt`, by the states ahead of its events. The
-//! reasons are those of `refusal_reasons`.
+//! A clause sees [`RefusedCalls`] as the list of the refused calls so far. That of a run is `refusals_of` in `specs/Refusals.antt`, by the
+//! states ahead of its events. The reasons are those of `refusal_reasons`.
 #![tactic(auto)]
 
 mod kinds;

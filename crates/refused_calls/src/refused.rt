@@ -61,7 +61,7 @@ impl RefusedCalls {
         self.calls.as_slice()
     }
 
-    /// Adds the calls that are refused in the event that comes next, after so many others.
+    /// Adds the calls that are refused in the event that comes next, after so many others, by the state ahead of it, which is sound.
     ///
     /// # Errors
     /// Out of memory.

@@ -25,14 +25,14 @@ pub struct Taken {
 }
 
 impl Taken {
-    /// The bytes of its lines.
+    /// The bytes of its lines: what was printed.
     pub fn bytes(&self) -> &[u8]
         ensures bytes { result.now ≡ self.now.printed }
     {
         self.printed.bytes()
     }
 
-    /// Its lines.
+    /// Its lines, as a text, if its bytes are one.
     pub fn lines(&self) -> &str
         ensures lines { IsUtf8 self.now.printed → result.now ≡ self.now.printed }
     {
@@ -40,7 +40,8 @@ impl Taken {
     }
 }
 
-/// Takes an event.
+/// Takes an event, and answers what it printed, and what it means for the run. No event has ended the run before, and the machine took
+/// fewer than 10^9 events.
 ///
 /// # Errors
 /// `NoMemory`. The event happened.
@@ -76,7 +77,7 @@ pub fn take_event(alloc: Global, machine: &mut Machine, event: Event) -> (Go, Op
     (go, sent(host, &out))
 }
 
-/// The line of the process that runs first.
+/// What a machine prints at its start: the line of the current process, which runs first.
 ///
 /// # Errors
 /// `NoMemory`.
@@ -93,7 +94,7 @@ pub fn start(alloc: Global, machine: &Machine) -> Result<Printed, HostFault>
     }
 }
 
-/// The tables.
+/// The lines of the tables of a machine's state.
 ///
 /// # Errors
 /// `NoMemory`.

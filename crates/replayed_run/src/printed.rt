@@ -32,7 +32,7 @@ impl Printed {
         self.host.sent(Channel::Out)
     }
 
-    /// What was printed, as a text.
+    /// What was printed, as a text, if the bytes are one.
     pub fn lines(&self) -> &str
         ensures lines { IsUtf8 self.now → result.now ≡ self.now }
     {

@@ -68,7 +68,7 @@ impl Model for Replay {
 }
 
 impl Replay {
-    /// The run before its first event. There are one to eight images, each of which loads, and at most 10^9 events.
+    /// The run of these inputs before its first event. There are one to eight images, each of which loads, and at most 10^9 events.
     ///
     /// # Errors
     /// `Overlap` and `NoRoom` as [`Machine::boot`] says; `NoMemory`.
@@ -99,14 +99,15 @@ impl Replay {
         })
     }
 
-    /// A law: the images boot on the disks, and from there a run of as many events as were taken leads to the state.
+    /// A law: the images boot on the disks, and from there a run of the first events of the schedule, as many as were taken, leads to the
+    /// state, and printed what is known of it.
     pub fn runs(&self)
         ensures runs { IsReplayed self.now }
     {
         let _taken = self.taken;
     }
 
-    /// How many events were taken.
+    /// How many events were taken: at most as many as the schedule has.
     pub fn taken(&self) -> u32
         ensures taken { result ≡ self.now.taken }
         ensures within { result ≤ length self.now.events }
@@ -132,7 +133,7 @@ impl Replay {
         self.next().is_none()
     }
 
-    /// The state, to be read part by part.
+    /// The state, to be read part by part. It is sound, and at most 10^9 ticks have passed in it.
     pub fn state(&self) -> &KernelState
         ensures state { result.now.call.state ≡ self.now.state }
         ensures sound { IsSound self.now.state }
@@ -161,7 +162,8 @@ impl Replay {
         }
     }
 
-    /// Takes the next event; nothing changes if none is left.
+    /// Takes the next event, and answers what it printed, and whether it ends the run. `None` if and only if none is left, as
+    /// [`Replay::is_at_end`] says; then nothing changes.
     ///
     /// # Errors
     /// `NoMemory`, for the lines; `Differs` if it printed something else when it was taken before. The event happened.
@@ -184,7 +186,7 @@ impl Replay {
         }
     }
 
-    /// Takes the steps that come next and print nothing, at most so many, and answers how many.
+    /// Takes steps that come next and print nothing, at most so many, all at once, and answers how many it took. More of them may follow.
     pub fn take_steps(&mut self, most: u32) -> u32
         ensures steps { TakesSteps result self.old self.new }
         ensures most { result ≤ most }

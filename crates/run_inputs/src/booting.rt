@@ -14,7 +14,7 @@ use std::alloc::Global;
 
 impl Inputs {
     /// The machine on which a run of these inputs starts, as [`Machine::boot`] makes it, with copies of the disks. There are one to eight
-    /// images, each of which loads.
+    /// images, each of which loads. The machine took no event yet.
     ///
     /// # Errors
     /// `Overlap` and `NoRoom` as [`Machine::boot`] says; `NoMemory`.

@@ -53,8 +53,10 @@ pub struct Inputs {
 
 /// Fetches the files in order, and judges each before the next is fetched. There are at most eight images.
 ///
+/// The answer is what the bytes of the files are judged to be. Exactly the files up to the one that is refused were fetched.
+///
 /// # Errors
-/// The refusal of the first file that isn't accepted; `HostFault` if the host failed; `NoMemory`.
+/// The refusal of the first file that isn't accepted; `HostFault` if the host failed, and then its count of faults rose; `NoMemory`.
 pub fn fetch_inputs<H: Host>(
     alloc: Global,
     files: InputFiles<'_, '_>,
@@ -72,10 +74,11 @@ pub fn fetch_inputs<H: Host>(
     }
 }
 
-/// The same, and the name of a file that can't be read.
+/// Does what [`fetch_inputs`] does, and tells the name of a file that can't be read.
 ///
 /// # Errors
-/// The refusal of the first file that isn't accepted, or the name of the first that can't be read; out of memory.
+/// The refusal of the first file that isn't accepted, or the name of the first that can't be read, which is the one that was fetched last;
+/// out of memory.
 pub fn fetch_named<'a, H: Host>(
     alloc: Global,
     files: InputFiles<'_, 'a>,
@@ -181,7 +184,7 @@ fn judge(file: &[u8], number: u8) -> Result<(), Refusal>
     }
 }
 
-/// The images in files, each of which loads.
+/// The images that these files load, in their order. Each of the files must load.
 ///
 /// # Errors
 /// Out of memory.

@@ -19,7 +19,7 @@ use command_words::{Taken, Tool, words_of};
 use host_port::Host;
 use std::alloc::Global;
 
-/// What the arguments after the program's name say, by the table of a command.
+/// What the arguments after the program's name say, by the table of a command. They name one to eight images.
 ///
 /// # Errors
 /// What is wrong with them; out of memory.
@@ -36,10 +36,11 @@ pub fn read_words<'a>(alloc: Global, tool: Tool, args: &'a [String]) -> Result<T
     }
 }
 
-/// Fetches and judges the inputs that the words of a command name.
+/// Fetches and judges the inputs that the words of a command name, as [`fetch_named`] does. They name at most eight images.
 ///
 /// # Errors
-/// The refusal of the first file that isn't accepted, or the name of the first that can't be read; out of memory.
+/// The refusal of the first file that isn't accepted, or the name of the first that can't be read, which is the one that was fetched last;
+/// out of memory.
 pub fn fetch_words<'a, H: Host>(
     alloc: Global,
     words: &Taken<'a>,

@@ -108,7 +108,7 @@ impl Recording {
         self.is_whole
     }
 
-    /// Notes the lines of an event before the picture.
+    /// Notes the lines of an event before the picture. Processes may still wait for what they asked for in it.
     pub fn pass(&mut self, lines: &str) {
         self.reader.note(lines);
     }
@@ -137,8 +137,9 @@ impl Recording {
         !lines.is_empty() || !matches!(event, Event::Step | Event::Tx)
     }
 
-    /// Draws the event of this number, which printed these lines and left these tables. An event of a disk that changed and printed nothing
-    /// isn't drawn. One that only moved a byte of the console goes into the column before it, if the events of that did the same.
+    /// Draws the event of this number, which printed these lines and left these tables. One that changed and printed nothing isn't drawn,
+    /// unless it is a tick or a key. One that only moved a byte of the console goes into the column before it, if the events of that did
+    /// the same.
     pub fn event(&mut self, number: u64, event: Event, lines: &str, tables: &str) {
         let is_drawn = !lines.is_empty() || matches!(event, Event::Tick | Event::Key(_));
         if is_drawn || tables != self.tables.as_str() {

@@ -85,14 +85,14 @@ impl Story {
         !lines.is_empty() || !matches!(event, Event::Step | Event::Tx)
     }
 
-    /// So many events were taken that changed nothing that is told.
+    /// So many events were taken that printed nothing and changed nothing that a process does.
     pub fn quiet(&mut self, count: u64)
         ensures reader { self.new.reader ≡ self.old.reader }
     {
         self.events = self.events.saturating_add(count);
     }
 
-    /// An event was taken, which printed these lines and left these tables.
+    /// An event was taken that printed something, or may have changed what a process does: it printed these lines and left these tables.
     pub fn event(&mut self, event: Event, lines: &str, tables: &str)
         ensures knows { (said : List Note) → Knows said self.old.reader.usages → Knows (said_by event lines.now said) self.new.reader.usages }
     {
@@ -112,7 +112,7 @@ impl Story {
         self.traps.note(text.is_whole());
     }
 
-    /// The console hasn't sent a byte more.
+    /// One byte more that the console hasn't sent.
     pub fn unsent(&mut self, byte: u8) {
         self.unsent.add(byte);
         self.left = self.left.saturating_add(1);
@@ -124,7 +124,7 @@ impl Story {
         text.add(&self.traps);
     }
 
-    /// What is told of a process that is left.
+    /// What is told of a process that is left beside what the state says of it: since which event it does that, and what else.
     pub fn left_words(&self, process: usize) -> LeftWords {
         left_words(self.alloc, &self.lives, &self.reader, process, self.ticks)
     }

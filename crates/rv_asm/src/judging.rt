@@ -81,7 +81,7 @@ fn is_unknown(labels: &Labels<'_>, statement: &Statement<'_>) -> bool
     }
 }
 
-/// Whether a number doesn't fit, or what a statement puts can't be put at an address.
+/// Whether a number doesn't fit, or what a statement puts can't be put at an address. The statement is a proper one, as a line has it.
 pub fn is_excessive(statement: &Statement<'_>, at: u64) -> bool
     requires proper { IsProper statement.now }
     ensures excessive { result ≡ spec.is_excessive (seen_statement statement.now) at }

@@ -82,7 +82,7 @@ impl<'a> Layout<'a> {
         Ok(known)
     }
 
-    /// Adds a statement.
+    /// Adds a statement, which is a proper one, as a line has it.
     pub fn take(&mut self, statement: &Statement<'a>)
         requires proper { IsProper statement.now }
         ensures layout { seen_layout self.new ≡ spec.after_statement (seen_statement statement.now) (seen_layout self.old) }

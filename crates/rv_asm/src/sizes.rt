@@ -7,7 +7,7 @@ ghost use Rattle.rv_asm.specs.Layouts as spec;
 
 use asm_syntax::{Statement, next_byte};
 
-/// How many bytes a statement puts at an address.
+/// How many bytes a statement puts at an address. The statement is a proper one, as a line has it.
 pub fn size_at(at: u64, statement: &Statement<'_>) -> u64
     requires proper { IsProper statement.now }
     ensures size { result ≡ spec.size_at at (seen_statement statement.now) }

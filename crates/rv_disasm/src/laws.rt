@@ -21,12 +21,13 @@ pub fn labels_are_distinct()
     ensures { (a : ℕ) (b : ℕ) → a < 2 ^ 32 → b < 2 ^ 32 → label_of a ≡ label_of b → a ≡ b }
 {}
 
-/// The label of an address may stand before a line.
+/// The label of an address may stand before a line: with that label and `: ` before it, a text is read as the same line with that label.
 pub fn lines_take_labels()
     ensures { (at : ℕ) (text : List ℕ) → IsLabelled at text }
 {}
 
-/// A word is written as an instruction if it is one, but for the fences that the assembler can't write.
+/// A word is written as an instruction if `rv_isa` decodes it, unless it is a fence other than 0x0FF0000F, which the assembler can't write.
+/// A word that `rv_isa` doesn't decode isn't written as one.
 pub fn instructions_are_written()
     ensures written { (word : ℕ) (i : Instr) → word < 2 ^ 32 → instruction_of word ≡ Some i → (i ≡ Fence → word ≡ 0x0ff0000f) → is_instruction word ≡ true }
     ensures unwritten { (word : ℕ) → instruction_of word ≡ None → is_instruction word ≡ false }

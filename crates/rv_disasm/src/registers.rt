@@ -18,7 +18,7 @@ fn register_names() -> [&'static str; 32]
     REGISTERS
 }
 
-/// The name of a register in the calling convention.
+/// The name of a register in the calling convention, by its number, which is below 32. It has at most four characters.
 pub fn register_name(number: u32) -> &'static str
     requires number { number < 32 }
     ensures name { result.now ≡ spec.register_name number }

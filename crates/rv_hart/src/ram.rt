@@ -17,7 +17,7 @@ const SIZE: usize = RAM_SIZE as usize;
 #[derive(Clone, Copy, PartialEq, Eq)]
 pub struct OutOfRam;
 
-/// The machine's memory.
+/// The machine's memory, which has 1,048,576 bytes. A clone has the same bytes; it is refused only if memory runs out.
 #[derive(Clone, Drop)]
 pub struct Ram {
     bytes: Vec<u8>,
@@ -33,6 +33,9 @@ impl Model for Ram {
 
 impl Ram {
     /// RAM with all bytes zero.
+    ///
+    /// # Errors
+    /// `NoMemory`, and nothing else.
     pub fn new(alloc: Global) -> Result<Self, NoMemory>
         ensures { IfOk result (λ ram. ram ≡ zeros) }
     {
@@ -55,7 +58,7 @@ impl Ram {
         }
     }
 
-    /// The half word at an address. `None` if and only if that isn't a multiple of 2, or the range isn't in RAM.
+    /// The half word at an address, its lowest byte first. `None` if and only if that isn't a multiple of 2, or the range isn't in RAM.
     #[inline]
     pub fn read16(&self, a: u32) -> Option<u16>
         ensures { result ≡ (if may_access a 2 then Some (number_at self.now a 2) else None) }
@@ -67,7 +70,7 @@ impl Ram {
         }
     }
 
-    /// The word at an address. `None` if and only if that isn't a multiple of 4, or the range isn't in RAM.
+    /// The word at an address, its lowest byte first. `None` if and only if that isn't a multiple of 4, or the range isn't in RAM.
     #[inline]
     pub fn read32(&self, a: u32) -> Option<u32>
         ensures { result ≡ (if may_access a 4 then Some (number_at self.now a 4) else None) }
@@ -79,7 +82,7 @@ impl Ram {
         }
     }
 
-    /// Writes a byte. `false` if and only if the address isn't in RAM; then nothing is changed.
+    /// Writes a byte; all others stay. `false` if and only if the address isn't in RAM; then nothing is changed.
     #[inline]
     pub fn write8(&mut self, a: u32, v: u8) -> bool
         ensures wrote { result ≡ may_access a 1 }
@@ -93,7 +96,8 @@ impl Ram {
         false
     }
 
-    /// Writes a half word. `false` if and only if the address isn't a multiple of 2, or the range isn't in RAM; then nothing is changed.
+    /// Writes a half word, its lowest byte first; all other bytes stay. `false` if and only if the address isn't a multiple of 2, or the
+    /// range isn't in RAM; then nothing is changed.
     #[inline]
     pub fn write16(&mut self, a: u32, v: u16) -> bool
         ensures wrote { result ≡ may_access a 2 }
@@ -106,7 +110,8 @@ impl Ram {
         false
     }
 
-    /// Writes a word. `false` if and only if the address isn't a multiple of 4, or the range isn't in RAM; then nothing is changed.
+    /// Writes a word, its lowest byte first; all other bytes stay. `false` if and only if the address isn't a multiple of 4, or the range
+    /// isn't in RAM; then nothing is changed.
     #[inline]
     pub fn write32(&mut self, a: u32, v: u32) -> bool
         ensures wrote { result ≡ may_access a 4 }
@@ -119,7 +124,7 @@ impl Ram {
         false
     }
 
-    /// Copies bytes into RAM. Refused if and only if the range isn't in RAM; then nothing is changed.
+    /// Copies bytes into RAM from an address on; all others stay. Refused if and only if the range isn't in RAM; then nothing is changed.
     pub fn copy_in(&mut self, a: u32, bytes: &[u8]) -> Result<(), OutOfRam>
         ensures answer { is_ok result ≡ in_ram a (length bytes.now) }
         ensures memory { self.new ≡ (if in_ram a (length bytes.now) then with_bytes self.old a (length bytes.now) bytes.now else self.old) }
@@ -142,7 +147,7 @@ impl Ram {
         if at < SIZE { &self.bytes[at..] } else { &[] }
     }
 
-    /// The bytes of a range. Refused if and only if it isn't in RAM.
+    /// The `n` bytes from an address on. Refused if and only if the range isn't in RAM.
     pub fn copy_out(&self, a: u32, n: usize) -> Result<&[u8], OutOfRam>
         ensures answer { is_ok result ≡ in_ram a n }
         ensures bytes { IfOk result (λ bytes. bytes.now ≡ take n (drop a self.now)) }

@@ -78,7 +78,7 @@ macro_rules! form_r {
     };
 }
 
-/// The instruction that a word is. None exactly for a word that has the bits of no row.
+/// The instruction of the row whose bits a word has. `None` if and only if the word has the bits of no row.
 pub fn decode(word: u32) -> Option<Instr>
     ensures { result ≡ instruction_of word }
 {

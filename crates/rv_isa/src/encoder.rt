@@ -36,7 +36,8 @@ macro_rules! each_form {
     };
 }
 
-/// The word of an instruction. `Fence` has many, and this is the one that orders all accesses.
+/// The word of a valid instruction ([`valid`]): the fixed bits of its row, and its fields in their places. It is read as this
+/// instruction again. `Fence` has many words, and this is the one that orders all accesses, 0x0FF0000F.
 pub fn encode(i: &Instr) -> u32
     requires { is_valid i.now ≡ true }
     ensures word { instruction_of result ≡ Some i.now }

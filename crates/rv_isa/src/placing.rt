@@ -6,8 +6,10 @@ ghost use Rattle.rv_isa.specs.Table.{form_of};
 
 use crate::rows::Form;
 
-/// The word with these fixed bits and these fields. The immediate is a word in two's complement; what the form has no field for is
-/// left out.
+/// The word with these fixed bits, of a row of this form, and these fields in their places. The immediate is a word in two's complement;
+/// what the form has no field for is left out.
+///
+/// The fixed bits leave room for the fields, as those of each row do, and each register number is below 32.
 pub fn word_with(bits: u32, form: Form, rd: u8, rs1: u8, rs2: u8, imm: u32) -> u32
     requires bits { bits ≤ spec.fixed (form_of form) }
     requires rd { rd < 32 }

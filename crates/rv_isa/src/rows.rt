@@ -98,14 +98,15 @@ pub const ROWS: [Row; 40] = [
     row!("ebreak", 0xffffffff, 0x100073, Whole),
 ];
 
-/// The forty instructions, as a value that a contract can name: the rows are those of the definition.
+/// [`ROWS`], as a value that a contract can name: a contract can't name a constant that holds references, so this call says that the rows
+/// are those of the definition.
 pub fn table() -> [Row; 40]
     ensures { map seen result ≡ map defined rows }
 {
     ROWS
 }
 
-/// The row of a mnemonic.
+/// The row of a mnemonic in lower case. `None` if and only if it is no instruction's. The fixed bits of the row leave room for its fields.
 pub fn row_named(name: &[u8]) -> Option<Row>
     ensures row { MatchOption result (spec.row_named name.now ≡ None) (λ row. spec.row_named name.now ≡ Some (seen row)) }
     ensures bits { IfSome result (λ row. row.bits ≤ fixed (form_of row.form)) }
@@ -124,7 +125,7 @@ pub fn rows_have_words()
     ensures { All HasWords rows }
 {}
 
-/// No word has the bits of two rows.
+/// No word has the bits of two rows: two rows differ in a bit that both fix.
 pub fn rows_apart()
     ensures { AllPairs NoWordHasBoth rows }
 {}

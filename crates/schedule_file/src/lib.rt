@@ -5,17 +5,9 @@
 //! and [`Schedule::next_event`] gives the events one by one. `specs/LineKinds.antt` is the table of the lines, and
 //! `specs/ScheduleFiles.antt` says what a text reads as (`reading`).
 //!
-//! | Call | Promise |
-//! |---|---|
-//! | [`Schedule::read`] | `read`, `events`: the text reads as these events, or its first fault is at this line; `most`: there are at most 1000000000. `NoMemory` is free |
-//! | [`Schedule::copy`] | `copy`: a schedule of the same events. `AllocError` is free |
-//! | [`Schedule::next_event`] | `next`: the first event that is still to come; `None` if and only if there is none. It takes no memory |
-//! | [`Schedule::peek`] | `next`: the same event, which stays; `None` if and only if there is none |
-//! | [`Schedule::steps_ahead`] | `ahead`: the schedule begins with so many steps |
-//! | [`Schedule::skip`] | `skips`: so many events are taken off |
-//!
 //! A [`Schedule`] is seen as the list of the events still to come. A schedule may have 1000000000 events, so repeats are kept of it and no
-//! single events: one for each line, and one for each typed character. The reader depends on `xinu_base`, `text_lines` and `arrayvec` alone.
+//! single events: one for each line, and one for each typed character. The reader depends on `xinu_base`, `text_lines` and `arrayvec`
+//! alone.
 #![tactic(auto)]
 
 mod faults;

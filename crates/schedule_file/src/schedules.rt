@@ -98,7 +98,7 @@ impl Schedule {
         })
     }
 
-    /// Takes the next event off the schedule; `None` if it is at its end.
+    /// Takes the next event off the schedule; `None` if and only if it is at its end. It takes no memory.
     pub fn next_event(&mut self) -> Option<Event>
         ensures next { MatchOption result ((self.old ≡ []) × (self.new ≡ [])) (λ event. self.old ≡ event ∷ self.new) }
     {
@@ -121,7 +121,7 @@ impl Schedule {
         Some(event)
     }
 
-    /// The event that [`Schedule::next_event`] would take; `None` if the schedule is at its end.
+    /// The event that [`Schedule::next_event`] would take, which stays; `None` if and only if the schedule is at its end.
     pub fn peek(&self) -> Option<Event>
         ensures next { result ≡ slice_get self.now 0 }
     {

@@ -9,7 +9,8 @@ use crate::lines::{is_joined, line_of};
 use std::alloc::{AllocError, Global};
 use xinu_base::{Event, NoMemory};
 
-/// The text of a schedule file with these events, at most 1000000000 of them.
+/// The text of a schedule file with these events, at most 1000000000 of them. It reads as these events and no others, and takes at most 18
+/// bytes for each.
 ///
 /// # Errors
 /// `NoMemory`.

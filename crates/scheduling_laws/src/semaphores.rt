@@ -1,4 +1,5 @@
-//! In which order those who wait on a semaphore go on, what its count is, and that it excludes.
+//! In which order those who wait on a semaphore go on, and equals of them run; what its count is; and that with a count of one it lets in
+//! one process at a time.
 
 ghost use Rattle.std.specs.Prelude.{◌≡◌, ◌≢◌, ◌⊎◌, ◌+◌, ◌+ℤ◌, ◌<◌, ◌++◌, ℕ, List, map, false, int_lt, neg_ℤ, pos, take, true};
 ghost use Rattle.xinu_base.specs.declared.events.End.{End};

@@ -1,4 +1,4 @@
-//! Who is stuck stays so, and tables tell of it.
+//! If everybody waits for another, no event changes it, and the tables of the state tell of it.
 
 ghost use Rattle.std.specs.Prelude.{◌≡◌, List, true};
 ghost use Rattle.xinu_base.specs.declared.events.End.{End};

@@ -27,7 +27,7 @@ pub struct SemaphoreEntry {
     pub count: i32,
 }
 
-/// The semaphores: owner and count of each, and the last number given.
+/// The semaphores: owner and count of each, and the last number given. A clone is equal.
 #[derive(Clone, Drop)]
 pub struct Sems {
     // The entries, by number.
@@ -48,7 +48,8 @@ impl Sems {
     ghost use Rattle.semaphores.specs.Counts.{Counts, SemaphoreTable, beside, entry_at, kernel_semaphores, no_entry, number_for, two_numbers, with_count, with_entry, with_made, with_made_entry, with_two};
 
     /// Semaphores 0 to 3, which are the kernel's: console input, console output with 64 tokens, the callers of the raw disk and
-    /// those of the file system. The table is part of the value, so there is always room for it.
+    /// those of the file system. They are those of the abstract machine's start, and fit new lists. The table is part of the value, so
+    /// there is always room for it, and the answer is never `NoMemory`.
     pub fn new(_alloc: Global) -> Result<Self, NoMemory>
         ensures starts { IfOk result (λ s. s ≡ kernel_semaphores) }
         ensures never { IfErr result (λ _. ⊥) }
@@ -58,7 +59,7 @@ impl Sems {
         Ok(Sems::of_kernel())
     }
 
-    /// Whether another table is equal.
+    /// Whether another table is equal: the same owner and count of each semaphore, and the same last number given.
     pub fn equals(&self, other: &Self) -> bool
         ensures equal { IsTrue result ↔ (self.now ≡ other.now) }
     {
@@ -139,7 +140,7 @@ impl Sems {
         self.entry_of(sem).count
     }
 
-    /// Whether n signals of `sem` leave its count within the greatest.
+    /// Whether n signals of `sem` leave its count within the greatest, 2147483647.
     pub fn has_room(&self, lists: &Lists, sem: Sem, n: u32) -> bool
         requires counts { Counts (table.lists lists.now) self.now.entries }
         ensures room { (s : ProcessTable) (m : List (Option ℕ)) (ticks : ℕ) →
@@ -150,7 +151,7 @@ impl Sems {
         stays_within(self.count(lists, sem), n)
     }
 
-    /// Gives up `sem`, on which nobody waits.
+    /// Gives up `sem`, on which nobody waits: its number is free then.
     pub fn delete(&mut self, lists: &Lists, sem: Sem)
         requires empty { list_at (table.lists lists.now) sem ≡ [] }
         requires counts { Counts (table.lists lists.now) self.old.entries }

@@ -33,8 +33,8 @@ impl Sems {
     ghost use Rattle.semaphores.specs.Counts.{Counts, beside, entry_at, tokens_of, with_count};
     ghost use Rattle.semaphores.specs.Signals.{after_signal, signal_answer};
 
-    /// Takes a token of `sem`, or puts the current process, which runs, last among its waiters. True if and only if a token was
-    /// taken.
+    /// Takes a token of `sem`, which is in use, or puts the current process, which runs, last among its waiters. True if and only if a
+    /// token was taken.
     pub fn wait(&mut self, lists: &mut Lists, procs: &mut Procs, sem: Sem) -> bool
         requires used { IsSome (entry_at self.old.entries sem).owner }
         requires runs { (process_in procs.old.processes procs.old.current).state ≡ State.Current }
@@ -63,7 +63,8 @@ impl Sems {
         false
     }
 
-    /// Gives `sem` a token, which makes its first waiter ready or is kept. Refused if the count is the greatest.
+    /// Gives `sem`, which is in use, a token, which makes its first waiter ready or is kept. `Full`, and nothing changes, if and only if
+    /// the count is the greatest.
     pub fn signal(&mut self, lists: &mut Lists, procs: &mut Procs, sem: Sem) -> Signalled
         requires used { IsSome (entry_at self.old.entries sem).owner }
         requires fits { Fits (table.lists lists.old) procs.old.processes }
@@ -87,8 +88,8 @@ impl Sems {
         }
     }
 
-    /// Gives `sem` n tokens at once, which leave its count within the greatest: its first n waiters become ready, in order, and what
-    /// is left of n is kept. Those who became ready.
+    /// Gives `sem`, which is in use, n tokens at once: its first n waiters become ready, in order, and what is left of n is kept. Those who
+    /// became ready. The number n is below 2^31, and leaves the count within the greatest ([`Sems::has_room`]).
     pub fn signaln(
         &mut self,
         lists: &mut Lists,
@@ -116,7 +117,7 @@ impl Sems {
         released
     }
 
-    /// Makes all waiters of `sem` ready, in order, and leaves this count, which isn't negative. Those who waited.
+    /// Makes all waiters of `sem`, which is in use, ready, in order, and leaves this count, which isn't negative. Those who waited.
     pub fn release_all(
         &mut self,
         lists: &mut Lists,
@@ -145,7 +146,7 @@ impl Sems {
         released
     }
 
-    /// Takes `p`, which waits on a semaphore, out of its waiters; the count rises by 1.
+    /// Takes `p`, which waits on a semaphore, out of its waiters; the count rises by 1. `p` is in no list then.
     pub fn forget_waiter(&mut self, lists: &mut Lists, p: Pid)
         requires waits { IsSomeAnd (place (table.lists lists.old) p) (λ q. q < 128) }
         requires counts { Counts (table.lists lists.old) self.old.entries }

@@ -37,7 +37,8 @@ struct Workload {
     schedule: Schedule,
 }
 
-/// Runs the workload of a number on these disks, and counts what it prints.
+/// Runs the workload of a number on these disks, and counts what it prints. The summary is that of a run of the abstract machine over the
+/// programs and the events of the number, and the machine is in the last state of that run.
 ///
 /// # Errors
 /// `Overlap` and `NoRoom` if and only if the programs don't boot, as [`Machine::boot`] says; `NoMemory`. The disks are dropped.

@@ -1,4 +1,4 @@
-//! The laws.
+//! What is proved of soak tests.
 
 ghost use Rattle.std.specs.Prelude.{◌≡◌, ℕ, false, List};
 ghost use Rattle.soak.specs.Soaks.{Soaks, Takes};

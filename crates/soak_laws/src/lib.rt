@@ -6,13 +6,7 @@
 //! makes the kernel panic, whatever its arguments, and none writes to RAM below the heap. So after each event of the schedule each process is
 //! still within its program (`specs/Running`), and the run is never over before its events are.
 //!
-//! [`laws`] has what is proved:
-//!
-//! | Law | Says |
-//! |---|---|
-//! | [`laws::programs_run`] | the machine that starts with the programs of a number runs them: the four are alive, each within its program |
-//! | [`laws::events_keep_programs_running`] | they still run after each event that a schedule draws; the kernel doesn't panic in it, and the run isn't over |
-//! | [`laws::soak_tests_end_with_their_schedule`] | a soak test takes 200,000 events and ends with its schedule, and its line says so |
+//! [`laws`] has what is proved.
 #![tactic(auto)]
 
 pub mod laws;

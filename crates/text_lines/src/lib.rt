@@ -4,13 +4,8 @@
 //! one may lack, and a carriage return before the line feed isn't part of it. The lines of a text and the tokens of a line are defined
 //! in `specs/Lines.antt`.
 //!
-//! | Call | Promise |
-//! |---|---|
-//! | [`first_line`] | `lines`: the lines of the text are its answer and those of what is left; `shorter`: less is left |
-//! | [`first_token`] | `tokens`: the tokens of the line are its answer and those of what is left; `None` if and only if there is none |
-//!
-//! Each call goes over the bytes that it takes off and no others, so a text is read in time in proportion to its length, and takes no
-//! memory. The crate depends on no other.
+//! [`first_line`] and [`first_token`] are the calls. Each goes over the bytes that it takes off and no others, so a text is read in time in
+//! proportion to its length, and takes no memory. The crate depends on no other.
 #![tactic(auto)]
 
 mod lines;

@@ -4,7 +4,8 @@ ghost use Rattle.std.specs.Prelude.{◌≡◌, ◌<◌, ◌==◌, [], ◌∷◌,
 ghost use Rattle.std.specs.List.{position};
 ghost use Rattle.text_lines.specs.Lines as lines;
 
-/// The first line of a text that isn't empty, and the text after its line feed.
+/// The first line of a text that isn't empty, and the text after its line feed, which is shorter than the text. The lines of the text are
+/// this one and those of what is after it.
 pub fn first_line(text: &[u8]) -> (&[u8], &[u8])
     requires something { 0 < length text.now }
     ensures lines { lines.lines_of text.now ≡ result.0.now ∷ lines.lines_of result.1.now }
@@ -16,7 +17,8 @@ pub fn first_line(text: &[u8]) -> (&[u8], &[u8])
     }
 }
 
-/// The first token of a line, and the line after the blank that ends it. There is none in a line of blanks.
+/// The first token of a line, and the line after the blank that ends it. The tokens of the line are this one, which isn't empty, and
+/// those of what is after it. `None` if and only if the line has no token: it is empty, or has blanks alone.
 pub fn first_token(line: &[u8]) -> Option<(&[u8], &[u8])>
     ensures tokens { MatchOption result (lines.tokens_of line.now ≡ []) (λ cut. lines.tokens_of line.now ≡ cut.0.now ∷ lines.tokens_of cut.1.now) }
     ensures something { IfSome result (λ cut. 0 < length cut.0.now) }

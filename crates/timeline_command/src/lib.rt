@@ -4,9 +4,7 @@
 //! The files are fetched and judged by the same call (`run_inputs`). So what `run` refuses is refused with the same status and text. Else
 //! the machine is booted, and takes the same events by the same calls; what it prints of each goes into the picture (`run_picture`).
 //!
-//! | Call | What it does |
-//! |---|---|
-//! | [`timeline`] | draws the picture that the arguments ask for, or refuses as `run` does, and answers the exit status |
+//! [`timeline`] is the call.
 #![tactic(auto)]
 
 mod command;

@@ -18,7 +18,8 @@ use run_story::Story;
 use std::alloc::{AllocError, Global};
 use xinu_base::{Pid, State};
 
-/// The text that tells of each process that is left but the null process what it does, and where it is.
+/// The text that tells of each process that is left in a sound state but the null process what it does, and where it is: each is told
+/// once, in the order of their numbers.
 ///
 /// # Errors
 /// Out of memory.
@@ -38,7 +39,7 @@ pub fn left_text(
     Ok(told)
 }
 
-/// The head of that text: none if nobody is left.
+/// The head of the text of [`left_text`]: empty if nobody is left but the null process.
 pub fn head_of(k: &KernelState) -> &'static str
     ensures head { result.now ≡ left_head k.now.call.state.tables }
 {
@@ -62,7 +63,7 @@ fn push_process(
     told.extend_from_slice(text.as_slice())
 }
 
-/// What is told of a process: nothing if its number is free.
+/// What is told of a process, whose number is below 64, in a sound state: nothing if its number is free.
 ///
 /// # Errors
 /// Out of memory.

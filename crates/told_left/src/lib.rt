@@ -1,16 +1,11 @@
 //! What is told of the processes that are left in a state: of each a line that says what it does, and a line that says where it is.
 //!
-//! | Call | Promise |
-//! |---|---|
-//! | [`left_text`] | `told`: exactly the processes that are left are told, each once, in the order of their numbers (`AreTold` in `specs/Left.antt`) |
-//! | [`process_text`] | `told`: a process is told, if its number isn't free (`IsTold` there) |
-//! | [`head_of`] | `head`: the head of these texts |
-//! | [`place_of`] | `place`: the address of the instruction that made the call in which a process waits, or of its next instruction |
+//! [`left_text`] tells of all of them (`AreTold` in `specs/Left.antt`), and [`process_text`] of one (`IsTold` there).
 //!
-//! Of a process is told what its state says that it does (`left_line` in `specs/Lines.antt`), its name (`name_of` in `specs/Names.antt`), for whose
-//! semaphore it waits (`awaited_of` in `specs/Awaited.antt`), and where it is: the call that its registers ask for, the address, the function
-//! that has it, and the instruction there (`whereabouts_text` in `specs/Whereabouts.antt`). All of this is read off the state. Since which event it
-//! does so, and what else is told, is what the story of the run knows.
+//! Of a process is told what its state says that it does (`left_line` in `specs/Lines.antt`), its name (`name_of` in `specs/Names.antt`),
+//! for whose semaphore it waits (`awaited_of` in `specs/Awaited.antt`), and where it is: the call that its registers ask for, the
+//! address, the function that has it, and the instruction there (`whereabouts_text` in `specs/Whereabouts.antt`). All of this is read off
+//! the state. Since which event it does so, and what else is told, is what the story of the run knows.
 #![tactic(auto)]
 
 mod awaited;

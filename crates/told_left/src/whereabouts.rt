@@ -140,7 +140,7 @@ fn call_asked(hart: &Hart) -> Call
     }
 }
 
-/// The address of the instruction that made the call in which a process waits, or of its next instruction.
+/// The address of the instruction that made the call in which a process waits, or of its next instruction if it doesn't wait.
 pub fn place_of(hart: &Hart, is_waiting: bool) -> u32
     ensures place { result ≡ spec.place_of hart.now is_waiting }
 {

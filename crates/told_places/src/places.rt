@@ -49,8 +49,8 @@ fn push_place(told: &mut Vec<u8>, words: &str, place: Option<Place<'_>>) -> Resu
     }
 }
 
-/// Adds the function in which an address is, after some words, if it is in one of a file's functions. None is after the end of
-/// RAM.
+/// Adds the function in which an address is, after some words, and how far the address is from its beginning: nothing if it is in none of
+/// the functions of the files, or after the end of RAM. The text remembers if memory ran out.
 pub fn add_function(text: &mut Text, words: &str, files: &[Vec<u8>], address: u32) {
     if address < RAM_SIZE {
         if let Some(place) = nearest_function(files, address) {
@@ -61,7 +61,8 @@ pub fn add_function(text: &mut Text, words: &str, files: &[Vec<u8>], address: u3
     }
 }
 
-/// The place of an address after the function, or label of assembler, that begins nearest before it, of all files.
+/// The place of an address after the function, or label of assembler, that begins nearest before it, of all files; of several as near, that
+/// of the first file. `None` if and only if no file has one.
 pub fn nearest_function(files: &[Vec<u8>], address: u32) -> Option<Place<'_>>
     ensures place { seen_place result ≡ spec.nearest_function (map (λ v. v.items) files.now) address }
 {

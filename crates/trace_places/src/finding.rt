@@ -20,7 +20,11 @@ use std::alloc::Global;
 use xinu_base::NoMemory;
 
 /// Where a text goes wrong that should be the transcript of a run that starts with these images on the disks of these images, and goes
-/// through these events; `None` if it is one. There are at most eight images of programs. The disks stay as they are.
+/// through these events. `None` if and only if it is one. There are at most eight images of programs, and at most 1,000,000,000 events. The
+/// disks stay as they are.
+///
+/// The lines before the mistake begin the transcript of a run, which goes on with the line that is due, or has ended. No run's transcript
+/// begins with more lines of the text.
 ///
 /// # Errors
 /// `Overlaps` if and only if an image of a program overlaps an earlier one; else `NoRoom` if and only if the heap has no stack for one;

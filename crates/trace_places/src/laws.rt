@@ -9,8 +9,8 @@ ghost use Rattle.xinu_base.specs.declared.events.Event.{Event};
 ghost use Rattle.xinu_model.specs.Boot.{Boots, Disks, Loaded, boot_on};
 ghost use Rattle.xinu_model.specs.Machine.{Xinu};
 
-/// A text that goes wrong nowhere is the transcript of a run. Of any other, the lines up to the place begin the transcript of a run, which
-/// goes on with the line that is due, or has ended; and no run's transcript begins with more lines of the text.
+/// A text in which `mistake_of` finds no place is the transcript of a run. Any other isn't: the lines up to the place begin the transcript
+/// of a run, which goes on with the line that is due, or has ended; and no run's transcript begins with more lines of the text.
 pub fn mistakes_are_exact()
     ensures { (disks : Disks) (images : List Loaded) (events : List Event) (s : Xinu) (bytes : List ℕ) → length images < NPROC →
         AreSoundDisks disks → boot_on disks images ≡ Boots s → MatchOption (mistake_of s events bytes) (IsText disks images events bytes)

@@ -3,12 +3,7 @@
 //! What goes wrong where is found by `trace_places`. The text that tells it is a definition, `report` in `specs/Reports.antt`: the number of the
 //! line, what the text has there, the line that a run prints instead, and in which event it does.
 //!
-//! | Call | Promise |
-//! |---|---|
-//! | [`report`] | `text`: the text that tells what was found |
-//! | [`event_name`] | `name`: the name of an event, as a schedule has it |
-//!
-//! Running out of memory is free.
+//! [`report`] is the call, and [`event_name`] names an event. Running out of memory is free.
 #![tactic(auto)]
 
 mod events;

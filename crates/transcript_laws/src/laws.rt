@@ -21,13 +21,15 @@ pub fn accepted_texts_are_printed()
     ensures { (s : Xinu) (events : List Event) (rest : List ℕ) → IsSound s → accepts told s events rest ≡ true ↔ Prints s events rest }
 {}
 
-/// A text is accepted of the machine that starts with these images on these disks if and only if it is the transcript of a run of it.
+/// A text is accepted of the machine that starts with these images on these disks if and only if it is the transcript of a run of it. There
+/// are fewer than 64 images, and the disks are sound.
 pub fn checked_texts_are_transcripts()
     ensures { (disks : Disks) (images : List Loaded) (events : List Event) (bytes : List ℕ) → length images < NPROC →
         AreSoundDisks disks → checks disks images events bytes ≡ true ↔ IsText disks images events bytes }
 {}
 
 /// A text has one run: two runs of which it is the transcript print the same lines, leave the same state and end in the same way.
+/// There are fewer than 64 images, and the disks are sound.
 pub fn transcripts_have_one_run()
     ensures { (disks : Disks) (images : List Loaded) (events : List Event) (bytes : List ℕ) → length images < NPROC → AreSoundDisks disks →
         (t u : IsText disks images events bytes) → (t.run.lines ≡ u.run.lines) × (t.last ≡ u.last) × (t.run.end ≡ u.run.end) }

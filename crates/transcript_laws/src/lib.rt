@@ -5,14 +5,7 @@
 //! (`specs/Choices`), so a reader never has to try two runs. `specs/Transcripts` says which texts are transcripts, and defines `checks`,
 //! which a program can compute.
 //!
-//! [`laws`] has what is proved, for all images, disks, events and texts:
-//!
-//! | Law | Says |
-//! |---|---|
-//! | [`laws::texts_tell_choices`] | the choice that a text tells is allowed, and has the effect of the choice under which an event prints what begins the text |
-//! | [`laws::accepted_texts_are_printed`] | from a sound state on, a text is accepted if and only if a run prints it |
-//! | [`laws::checked_texts_are_transcripts`] | a text is accepted of the machine with these images and disks if and only if it is the transcript of a run |
-//! | [`laws::transcripts_have_one_run`] | a text is the transcript of at most one run: its lines, last state and end are determined by the bytes |
+//! [`laws`] has what is proved, for all events and texts, and for each start of the machine with fewer than 64 images on sound disks.
 #![tactic(auto)]
 
 pub mod laws;

@@ -1,20 +1,8 @@
 //! The console's driver: what is received and edited, what is echoed and sent (book, chapter 15).
 //!
 //! A clause sees a [`Tty`] as the abstract machine's console (`Console` in `xinu_model/specs/Console/State`): mode, whether echo is on,
-//! whether output is held, the items that can be taken, the line, the output and the echo. The code has three rings. Each call is the
-//! step of that definition:
-//!
-//! | Call | Condition | Promise |
-//! |---|---|---|
-//! | `new` | | `starts`: `first_console` |
-//! | `receive` | | `console`, `count`: `received`, the three tables of characters; how many items it commits |
-//! | `transmit` | | `byte`, `sent`: `transmitted`; `None` if and only if output is held or there is nothing to be sent |
-//! | `take` | `item`: there is a committed item | `taken`: the first item is gone |
-//! | `put` | `room`: there is room for a byte of output | `put`: `with_output` |
-//! | `control` | | `count`, `console`: `controlled`; `None`, and nothing changes, if and only if there is no such function |
-//! | `mode` | | `mode`: the mode |
-//! | `sizes` | | `sizes`: the lengths of the lists, and whether output is held; `sound`: each list has room for what it holds, and there is a line only in cooked mode (`IsSoundConsole`) |
-//! | `equals`, `clone` | | `equal`: `true` if and only if what a clause sees is equal; a clone is equal, and takes memory |
+//! whether output is held, the items that can be taken, the line, the output and the echo. The code has three rings, and each call is the
+//! step of that definition.
 //!
 //! The items and the line are one ring in which the last bytes are the line (`specs/Input`); erasing takes the last byte of the line, so it
 //! never takes a committed item. Who waits for an item or for room is the business of the crates above. The crate depends on

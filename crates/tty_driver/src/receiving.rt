@@ -14,7 +14,7 @@ use crate::tty::Tty;
 use xinu_base::{Item, TtyMode};
 
 impl Tty {
-    /// Receives a character. Answers how many items were committed.
+    /// Receives a character, by the table of characters of the console's mode. Answers how many items were committed.
     pub fn receive(&mut self, b: u8) -> u32
         ensures console { self.new ≡ (received b self.old).console }
         ensures count { result ≡ (received b self.old).count }

@@ -28,7 +28,7 @@ pub struct TtySizes {
     pub held: bool,
 }
 
-/// The console: its mode, its input, its output and its echo.
+/// The console: its mode, its input, its output and its echo. A clone is equal, and takes memory.
 pub struct Tty {
     pub(crate) mode: TtyMode,
     // Whether echo is on.
@@ -86,7 +86,7 @@ impl Tty {
         })
     }
 
-    /// Whether another console is equal.
+    /// Whether another console is equal, in all that a clause sees.
     pub fn equals(&self, other: &Self) -> bool
         ensures equal { IsTrue result ↔ (self.now ≡ other.now) }
     {
@@ -105,7 +105,8 @@ impl Tty {
         self.mode
     }
 
-    /// How much the console holds, and whether output is held.
+    /// How much the console holds, and whether output is held. Input, output and echo have room for what they hold, and there is a line
+    /// only in cooked mode (`xinu_model/specs/Console/Sound`).
     pub fn sizes(&self) -> TtySizes
         ensures sizes { result ≡ sizes_of self.now }
         ensures sound { IsSoundConsole self.now }
@@ -119,7 +120,7 @@ impl Tty {
         }
     }
 
-    /// Takes the first item that can be taken.
+    /// Takes the first item that can be taken. There must be one.
     pub fn take(&mut self) -> Item
         requires item { 0 < length self.old.committed }
         ensures taken { self.old ≡ with_next_item result self.new }

@@ -1,4 +1,4 @@
-//! A law of the programs.
+//! A law of the programs: those of every number boot.
 
 ghost use Rattle.std.specs.Prelude.{◌≡◌, ℕ};
 ghost use Rattle.workload.specs.Programs.{programs};

@@ -5,15 +5,7 @@
 //! `specs/Groups.antt` has the shapes of the calls, `specs/Programs.antt` the programs, `specs/Schedules.antt` the events, and
 //! `specs/Summaries.antt` what is counted of the text of a run. A [`Tally`] counts text by text, so none has to be kept.
 //!
-//! | Call | Promise |
-//! |---|---|
-//! | [`program_file`] | `loads`: the file loads as `program` of the definition; `draws`: what is drawn next comes after it |
-//! | [`schedule_text`] | `reads`: the text reads as the 200,000 events of the definition; `size`: it has at most 2,000,000 bytes |
-//! | [`Tally::add`] | `counts`: the lines of one more text are counted |
-//! | [`Tally::summary`] | `line`: the line is `summary` of the definition |
-//! | [`laws`] | the programs of every number boot |
-//!
-//! All but `add` and the law take memory, and `NoMemory` is free.
+//! [`program_file`], [`schedule_text`] and [`Tally::summary`] take memory, and `NoMemory` is free. [`laws`] says that the programs boot.
 #![tactic(auto)]
 
 mod draws;

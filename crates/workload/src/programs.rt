@@ -20,7 +20,7 @@ const DISTANCE: u32 = 32_768;
 /// The letters `XIMG`, the first in the lowest byte.
 const MAGIC: u32 = 0x474D_4958;
 
-/// The image file of program `number`, which is 1 to 4.
+/// The image file of program `number`, which is 1 to 4. It loads as the program that is drawn; what is drawn next comes after it.
 ///
 /// # Errors
 /// `NoMemory`.

@@ -12,7 +12,7 @@ use xinu_base::{Event, NoMemory};
 /// How many events a schedule has.
 const EVENTS: u32 = 200_000;
 
-/// The text of a schedule.
+/// The text of a schedule. It reads as the 200,000 events that are drawn, and has at most 2,000,000 bytes.
 ///
 /// # Errors
 /// `NoMemory`.

@@ -45,7 +45,8 @@ impl Tally {
         }
     }
 
-    /// Counts the lines of one more text: calls, replies, lines of the process that runs, and bytes that the console sent.
+    /// Counts the lines of one more text: calls, replies, lines of the process that runs, and bytes that the console sent. Fewer than
+    /// 4294967295 texts were counted before.
     pub fn add(&mut self, text: &[u8])
         requires few { self.old.texts < 4294967295 }
         ensures counts { self.new.counts ≡ spec.added self.old.counts (spec.counts_of text.now) }
@@ -58,7 +59,7 @@ impl Tally {
         self.texts += 1;
     }
 
-    /// The summary of a run that a number gave, by how many events it took and how it ended.
+    /// The line that sums up a run that a number gave: how many events it took, what was counted of its texts, and how it ended.
     ///
     /// # Errors
     /// `NoMemory`.

@@ -2,15 +2,11 @@
 //! registers, events, calls, the kinds of devices and what they offer, the console's modes and items, the modes of files, and the lines of
 //! a transcript.
 //!
-//! | What | Promise |
-//! |---|---|
-//! | [`Below`]: [`Pid`], [`Sem`], [`PoolId`], [`Port`], [`Dev`] | seen as numbers: `from_word` gives one if and only if the word is below the bound, `at` that of a place in the table, `index` gives it back |
-//! | [`call_name`], [`call_args`], [`family_of`], [`is_call`] | the name of a call, how many arguments it takes, its family, and whether a number has one: the table `syscalls` in `specs/Syscalls.antt` |
-//! | [`before_zero`] | the bytes before the first zero |
-//! | all other types | plain data: a contract sees their fields |
+//! A clause sees a [`Below`] as its number. All other types are plain data, of which it sees the fields.
 //!
 //! `specs/Insert.antt` has the two insertions of the kernel's lists, `specs/Constants.antt` the constants by the book's names,
-//! `specs/Names.antt` the words of a transcript, `specs/Hexadecimal.antt` bytes as digits. The crate depends on nothing.
+//! `specs/Syscalls.antt` the table of the calls (`syscalls`), `specs/Names.antt` the words of a transcript, `specs/Hexadecimal.antt` bytes
+//! as digits. The crate depends on nothing.
 #![tactic(auto)]
 
 mod console;

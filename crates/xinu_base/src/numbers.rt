@@ -47,7 +47,7 @@ impl<const N: u8> Below<N> {
         }
     }
 
-    /// The number of a place in the table.
+    /// The number of a place in the table, which is below the bound.
     pub fn at(index: usize) -> Self
         requires below { index < N }
         ensures number { result ≡ index }
@@ -57,7 +57,7 @@ impl<const N: u8> Below<N> {
         }
     }
 
-    /// The place in the table that the number indexes.
+    /// The place in the table that the number indexes: the number itself.
     pub fn index(self) -> usize
         ensures index { result ≡ self.entry }
         ensures bound { result < N }

@@ -1,5 +1,5 @@
-//! Devices by themselves: what some characters that are typed leave, what some calls on files and on the raw disk answer, and what some mounted
-//! names map.
+//! Devices by themselves: what some characters that are typed leave on the console; what some calls on files answer, and what becomes of
+//! some under way; what some mounted prefixes map; and what becomes of some blocks of the raw disk.
 
 ghost use Rattle.std.specs.Prelude.{◌≡◌, ◌+◌, true, [], ◌∷◌, ◌++◌, replicate, Some, None, false, take, drop, pos, slice_set};
 ghost use Rattle.xinu_base.specs.declared.console.Item.TheVariants.{Char, End};

@@ -1,4 +1,4 @@
-//! Examples worked out: what the definitions say of small systems of processes, line by line.
+//! Examples worked out: what small systems of processes print by the definitions, line by line.
 //!
 //! Each function does nothing; its contract says what an example prints. The examples and the lines that are expected of them are in
 //! `specs/`, a file for each subject. A system makes its calls directly, so that all calls of the table can be tried.

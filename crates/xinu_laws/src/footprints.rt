@@ -1,4 +1,4 @@
-//! Footprints: which parts of the state each call may change.
+//! Footprints: which numbers have a call, and which parts of the state each call may change.
 
 ghost use Rattle.std.specs.Prelude.{◌≡◌, ℕ, true, false, List, Some, is_some};
 ghost use Rattle.xinu_base.specs.declared.lines.TranscriptLine.{TranscriptLine};
@@ -14,7 +14,7 @@ ghost use Rattle.xinu_model.specs.Sound.State.{IsSound};
 ghost use Rattle.xinu_base.specs.Syscalls.{is_call};
 ghost use Rattle.xinu_laws.specs.Touches.{Reach, reach, touched_by, stacks_of, KeepsParts, Touches};
 
-/// A number has a row if and only if it has a call.
+/// A number has a row if and only if it has a call: the rows are the calls that a transcript names.
 pub fn rows_are_syscalls()
     ensures { (number : ℕ) → is_some (found_in calls number) ≡ is_call number }
 {}

@@ -1,4 +1,5 @@
-//! What holds at each moment of an event: the laws that the kernel's code cites.
+//! What holds at each moment of an event, and is kept by each row, each continuation, a death, a tick, a received character, a
+//! transmission, and the end of an event: the laws that the kernel's code cites.
 
 ghost use Rattle.std.specs.Prelude.{◌≡◌, ◌≢◌, ℕ, false, [], List, Some, slice_index};
 ghost use Rattle.xinu_base.specs.Syscalls.{is_call};

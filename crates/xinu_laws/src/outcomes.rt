@@ -1,4 +1,5 @@
-//! The outcomes of events and runs: each choice has one, one text has one, and a run in which nothing is chosen is determined.
+//! The outcomes of events and runs: each choice that is allowed has one, one text has one, and a run is determined by its start and its
+//! schedule if nothing is chosen in it, and by its text.
 
 ghost use Rattle.std.specs.Prelude.{◌≡◌, ◌<◌, ◌++◌, ℕ, List, false, length};
 ghost use Rattle.xinu_base.specs.Constants.{NPROC};

@@ -1,4 +1,5 @@
-//! Soundness: the machine starts in a sound state, and each event and each run keeps it so.
+//! Soundness: the machine starts in a sound state, on given disks too, and each event and each run keeps it so. In such a state a free
+//! place holds its fixed value, and who goes on with a call on a device finds what it waited for.
 
 ghost use Rattle.std.specs.Prelude.{◌≡◌, ◌<◌, length, List, ℕ, ℤ, true, Option, None, IsSome, slice_index_or};
 ghost use Rattle.xinu_base.specs.Constants.{NPROC};

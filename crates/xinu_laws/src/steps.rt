@@ -1,4 +1,4 @@
-//! Many machine steps at once.
+//! Many machine steps at once: steps that print nothing come before the events of any run.
 
 ghost use Rattle.std.specs.Prelude.{◌++◌, ℕ, List, replicate};
 ghost use Rattle.xinu_base.specs.declared.events.End.{End};

@@ -9,7 +9,8 @@ ghost use Rattle.xinu_model.specs.Events.{Happens};
 ghost use Rattle.xinu_model.specs.Machine.{Xinu};
 ghost use Rattle.xinu_model.specs.Runs.{RunsTo};
 
-/// The outcomes of an event agree if nothing is chosen, and if their lines are equal.
+/// If nothing is chosen in an event, its lines and the state after it are determined by the state before. Outcomes with equal lines have
+/// equal states. The lines of no outcome begin with a file call that took effect as the next one.
 pub fn outcomes_agree()
     ensures { (old : Xinu) (e : Event) → OutcomesAgree old e }
 {}

@@ -4,12 +4,7 @@
 //! `Ports`, `Console`, `RawDisk`, `Files`, `Names`, `Devices` (what each device offers), `Isa` (the instructions), then `Machine` (the
 //! state, and the end of an event), `Calls` (the table of calls), `Events`, `Boot`, `Runs`, `Steps` (many steps that print nothing),
 //! `Text`, and `Sound` (what always holds). The contracts of all other crates cite these definitions. `docs/KERNEL.md` says them in words.
-//! [`laws`] has the laws on outcomes, each the contract of a function that does nothing:
-//!
-//! | Law | Says |
-//! |---|---|
-//! | [`laws::outcomes_agree`] | if nothing is chosen in an event, its lines and the state after it are determined by the state before; equal lines have equal states; no outcome begins with a file call that took effect as the next one |
-//! | [`laws::events_happen`], [`laws::runs_happen`] | each event has an outcome, and there is a run through each list of events, from each state |
+//! [`laws`] has the laws on outcomes, each the contract of a function that does nothing.
 #![tactic(auto)]
 
 pub mod laws;
