@@ -111,7 +111,7 @@ impl FileServer {
         self.disk.has_open() || self.are_calls()
     }
 
-    /// How many calls are under way.
+    /// How many calls are under way: at most 64.
     pub fn pending(&self) -> usize
         ensures pending { result ≡ length self.now.work.calls }
         ensures most { result ≤ 64 }
@@ -150,7 +150,8 @@ impl FileServer {
         self.disk.devices()
     }
 
-    /// A call is made, with bytes in RAM. It has its reply at once, and a read's bytes are in RAM, or it is under way after the others.
+    /// A call is made, with bytes in RAM. It has its reply at once, and a read's bytes are in RAM, if no call was under way and it needs no
+    /// block. Else it is under way after the others, of which there must be fewer than 64. The disk stays.
     pub fn issue(&mut self, r: FileRequest, ram: &mut Ram) -> Option<i32>
         requires room { length self.old.work.calls < 64 }
         requires request { IsRequest r }
@@ -174,6 +175,8 @@ impl FileServer {
 
     /// One good completion of the disk. The first call has its reply, or a turn. Once it has its reply, the next becomes the first, with the
     /// bytes that are in RAM then, and so on as long as one needs no block. Tells what happened, in order.
+    ///
+    /// At most one block of the disk changes, and none while the first call is one that will be refused or writes no file.
     pub fn complete(&mut self, ram: &mut Ram) -> FileNotes
         requires busy { are_calls self.old.work.calls ≡ true }
         ensures completed { (let after : FileStep = record { work = self.new.work; memory = ram.new; notes = map note_of result.items } in
@@ -206,7 +209,7 @@ impl FileServer {
         notes
     }
 
-    /// Gives up what `p` asked for, once it was killed: the first call goes on without its caller, and the others are taken out.
+    /// Gives up what `p` asked for, once it was killed: the first call goes on without its caller, and the others are taken out. The disk stays.
     pub fn forget(&mut self, p: Pid)
         ensures forgets { self.new.work ≡ calls_given_up p self.old.work }
         ensures image { self.new.image ≡ self.old.image }

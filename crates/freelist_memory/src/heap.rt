@@ -41,7 +41,7 @@ impl Model for Heap {
 }
 
 impl Heap {
-    /// The heap from an address up to another, all of it free. This call and `clone` alone take memory, for at most
+    /// The heap from an address up to another, all of it free: both multiples of 8, in their order and in RAM. This call and `clone` alone take memory, for at most
     /// `(high - low) / 16 + 1` records.
     ///
     /// # Errors
@@ -65,7 +65,7 @@ impl Heap {
         self.low == other.low && self.cells.equals(&other.cells)
     }
 
-    /// The address that `getmem` of `n` bytes answers if it is called next.
+    /// The address that `getmem` of `n` bytes answers if it is called next, `None` if and only if it refuses.
     pub fn place_for(&self, n: u32) -> Option<u32>
         ensures place { result ≡ option_map (λ g. g.address) (heap.take_memory n self.now) }
     {

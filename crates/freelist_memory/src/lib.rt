@@ -4,18 +4,6 @@
 //! equation with the machine's own `take_memory`, `take_stack`, `free_memory` and `free_stack`. Sizes and addresses are unsigned, and
 //! no sum of them wraps.
 //!
-//! | Call | Condition | Promise |
-//! |---|---|---|
-//! | `new` | `low_aligned`, `high_aligned`: multiples of 8; `order`: low is at most high; `in_ram`: high is at most RAM's size | `free`: all cells are free; or `NoMemory`, in this call alone |
-//! | `place_for` | | `place`: the address that `getmem` would answer |
-//! | `getmem` | | `grants`: the lowest cells that are free and enough, their address; `refuses`: `None` if and only if the machine refuses; `stays`: then nothing changes; `aligned`, `in_ram`: where the bytes are |
-//! | `getstk` | | the same of the highest cells; the answer is the address of the stack's highest word |
-//! | `freemem` | | `frees`: the cells are free, false if and only if the machine refuses; `stays`: then nothing changes |
-//! | `freestk` | | the same of the stack whose highest word is at the address |
-//! | `free_total` | | `total`: the bytes of the cells that are free |
-//! | `block_from` | | `first`: the first of the machine's `free_blocks` at the address or above, `None` if and only if there is none; `some`, `in_ram`: it isn't empty, and is in RAM |
-//! | `equals`, `clone` | | `equal`: `true` if and only if what a clause sees is equal; a clone is equal, and takes memory |
-//!
 //! The code keeps the free blocks alone: by place, none empty, and a taken cell between any two (`AreBlocks` in `specs/Blocks.antt`,
 //! `cells_of` what they stand for). So n cells have at most (n + 1) / 2 blocks, and the n / 2 + 1 records that `new` takes are enough:
 //! no other call but `clone` takes memory. Each call costs time in proportion to the number of free blocks. `proofs/Rest.antt` has the laws for a

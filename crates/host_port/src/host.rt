@@ -55,14 +55,16 @@ impl<T: Drop> From<AllocFailed<T>> for HostFault {
     }
 }
 
-/// The world outside: files by name, and channels that bytes are appended to.
+/// The world outside: files by name, and channels that bytes are appended to. It counts its faults: the count never falls, and ends at
+/// 2^64 - 1.
 pub trait Host {
     ghost view: { Self → Outside };
 
-    /// The first `max + 1` bytes of a file, or all of them if it has fewer.
+    /// The first `max + 1` bytes of a file, or all of them if it has fewer. The call is added to those made, and no file or channel changes.
     ///
     /// # Errors
-    /// `Failed` if the file can't be read, and only if the count of faults rose; `NoMemory`.
+    /// `Failed` if the file can't be read, and only if the count of faults rose or is at its end; `NoMemory`, and then the call
+    /// may not have been added.
     fn fetch(&mut self, alloc: Global, path: &str, max: usize) -> Result<Vec<u8>, HostFault>
         ensures bytes { IfOk result (λ v. MatchOption ((view self.old).file path.now) ⊤ (λ bytes. v.items ≡ take (max + 1) bytes)) }
         ensures bound { IfOk result (λ v. vec_len v ≤ max + 1) }
@@ -73,7 +75,8 @@ pub trait Host {
     /// Says which file a channel writes, and makes the channel empty. `channel` is `Disk0`, `Disk1` or `Image`.
     ///
     /// # Errors
-    /// `Failed` if the file can't be made, and only if the count of faults rose; `NoMemory`. The channel may be empty then.
+    /// `Failed` if the file can't be made, and only if the count of faults rose or is at its end; `NoMemory`. The channel is empty
+    /// then, or as before.
     fn name_out(&mut self, channel: Channel, path: &str) -> Result<(), HostFault>
         requires not_out { channel ≢ Channel.Out }
         requires not_fault { channel ≢ Channel.Fault }
@@ -84,8 +87,8 @@ pub trait Host {
     /// Appends bytes to a channel.
     ///
     /// # Errors
-    /// `Failed` if they can't be written, and only if the count of faults rose; `NoMemory`. Some bytes from the
-    /// front may have been appended then.
+    /// `Failed` if they can't be written, and only if the count of faults rose or is at its end; `NoMemory`. Some bytes from
+    /// the front may have been appended then.
     fn emit(&mut self, channel: Channel, bytes: &[u8]) -> Result<(), HostFault>
         ensures sent { Emits (view self.old) (view self.new) channel bytes.now result }
         ensures cause { HasCause (view self.old).faults (view self.new).faults result }

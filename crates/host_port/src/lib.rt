@@ -8,15 +8,8 @@
 //!
 //! The ghost member `view` shows a host as a record `Outside`: the bytes of each `file`, the bytes on each channel, the `calls` of
 //! `fetch` and `name_out` so far, and the count of `faults`. All but the count are an `Option`: `None` says that this part isn't observable.
-//! Each contract is one equation between the outside before and after the call, so what the equation doesn't name was left alone.
-//!
-//! | Call | Promise | Clause |
-//! |---|---|---|
-//! | `fetch` | if the file is observable, its first `max + 1` bytes, fewer only at its end; never more | `bytes`, `bound` |
-//! | | no file and no channel changes; the call is added to `calls` (at `NoMemory` perhaps not) | `calls`: `MakesCall` |
-//! | `name_out` | the channel is empty, and the call was added to `calls`; at a refusal the channel is empty or as before | `named`: `NamesFile` |
-//! | `emit` | all bytes were appended to what was sent on this channel; at a refusal a prefix of them | `sent`: `Emits` |
-//! | each | the count never falls and stays below 2^64; `Failed` comes only if it rose or is at its end | `cause`: `HasCause`; `count` |
+//! Each contract is one equation between the outside before and after the call, so what the equation doesn't name was left alone:
+//! `MakesCall` of a `fetch`, `NamesFile` of a `name_out`, `Emits` of an `emit`, and of each `HasCause`.
 //!
 //! `NoMemory` is an answer of its own, and no clause says when it comes.
 //!

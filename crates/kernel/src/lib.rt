@@ -7,7 +7,7 @@
 //! `close_event` makes it the idle kernel of the event's end. Replies are written into registers there, those of released processes first.
 //!
 //! That a kernel stands for a state that is sound, inside an event or between two, is kept by the type: the invariant of `Kernel` is what
-//! each call keeps (`KeepsAll` of `part_laws`). So no call has a condition on lists, states or counts, and the crates above name none.
+//! each call keeps (`KeepsAll` of `part_laws`). So no call has a condition on lists or states, and the crates above name none.
 //! The crate depends on `kernel_boot`, `core_calls` and `io_calls`.
 #![tactic(auto)]
 

@@ -38,7 +38,7 @@ pub fn dirs_of(bytes: &[u8]) -> u32
     }
 }
 
-/// The directory of an image.
+/// The directory of an image: its counts and its entries, at most 78.
 pub fn read_directory(
     alloc: Global,
     geometry: Geometry,

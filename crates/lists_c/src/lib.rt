@@ -3,10 +3,6 @@
 //! So a program in C that has lists of its own notes the calls on them, and asks what the proved ones answer: the first answer that
 //! differs is the first mistake. `examples/lists_in_c` has such a program.
 //!
-//! | Call | Promise |
-//! |---|---|
-//! | [`list_answers`] | `answered`: the answers are those of the three lists (`answers_of` in `specs/Answers.antt`); `ranges`: `NO_ROOM` if and only if there isn't an answer for each call; `stays`: then nothing is written, nor if memory runs out |
-//!
 //! The archive needs `rattle_alloc`, `rattle_realloc` and `rattle_dealloc`, which the toolchain's C library has.
 #![tactic(auto)]
 

@@ -3,16 +3,6 @@
 //! The run is a `Replay`, so it is the same run wherever it stands (`IsSameRun` of `replayed_run`), and what it is watched for are addresses
 //! of instructions, ahead of which it stops, and bytes of RAM, after a change of which it stops.
 //!
-//! | Call | Promise |
-//! |---|---|
-//! | [`WatchedRun::new`] | `run`, `addresses`, `areas`, `told`: a run that is watched for nothing |
-//! | [`WatchedRun::set`], [`WatchedRun::clear`] | `stays`; `set`, `clear`: the run is to stop ahead of the instruction at an address, or no longer |
-//! | [`WatchedRun::watch`], [`WatchedRun::forget`] | `stays`; `few`, `watch`, `forget`: the run is to stop after a change of some bytes, at most eight, or no longer |
-//! | [`go_on`] | `stops`: the run passes events as long as nothing stops it, and stops with the next one, for this reason and at this process; `told`: of which trap that was told; `same`: it is the same run |
-//! | [`go_back`] | `stops`: the run goes back to the last place before at which anything stops it on its way back, for this reason and at this process, or to its beginning if there is none; `told`: no trap was told; `same`: it is the same run |
-//! | [`WatchedRun::seek`] | `reached`, `within`: it goes to where so many events were taken, or to its end if there are fewer; `same`: it is the same run |
-//! | [`shown`], [`thread_process`] | `shown`, `process`: the process that is looked at first, and that of a thread's number |
-//!
 //! What stops a run is said in `specs/Stops.antt`: a point ahead of an instruction, a trap that is told, a change of bytes that are watched, a
 //! goal that is reached, or the end of the run. [`go_on`] stops with the first event at which there is one.
 //!

@@ -248,7 +248,7 @@ impl WatchedRun {
         let _ = self.replay.take_steps(u32::MAX);
     }
 
-    /// Goes to where so many events were taken.
+    /// Goes to where so many events were taken, or to its end if there are fewer.
     ///
     /// # Errors
     /// Out of memory; `Failed` if an event printed something else when it was taken before.
