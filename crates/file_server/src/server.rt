@@ -55,8 +55,8 @@ impl Model for FileServer {
 }
 
 impl FileServer {
-    /// The disk of an image, with no file open and no call under way. It takes all the memory that it ever has: a buffer for the bytes
-    /// of a call, and a copy of the disk.
+    /// The disk of an image, with no file open and no call under way. It takes all the memory that it ever has: a buffer of 1 MiB for
+    /// the bytes of a call, and a copy of the disk.
     ///
     /// # Errors
     ///
@@ -96,7 +96,7 @@ impl FileServer {
         !self.requests.is_empty()
     }
 
-    /// The position and the size of the file that a device has open, counted from the first file device.
+    /// The position and the size of the file that a device has open. The six file devices are counted from the first, which is 0.
     pub fn open_file(&self, d: usize) -> Option<(u32, u32)>
         requires below { d < 6 }
         ensures place { result ≡ place_of (open_at self.now.work.system d) self.now.work.system }
@@ -151,7 +151,10 @@ impl FileServer {
     }
 
     /// A call is made, with bytes in RAM. It has its reply at once, and a read's bytes are in RAM, if no call was under way and it needs no
-    /// block. Else it is under way after the others, of which there must be fewer than 64. The disk stays.
+    /// block. Else it is under way after the others. The disk stays.
+    ///
+    /// Fewer than 64 calls must be under way. A name must be one that a file can have, and the bytes that are read or written must lie in
+    /// RAM.
     pub fn issue(&mut self, r: FileRequest, ram: &mut Ram) -> Option<i32>
         requires room { length self.old.work.calls < 64 }
         requires request { IsRequest r }
@@ -176,7 +179,8 @@ impl FileServer {
     /// One good completion of the disk. The first call has its reply, or a turn. Once it has its reply, the next becomes the first, with the
     /// bytes that are in RAM then, and so on as long as one needs no block. Tells what happened, in order.
     ///
-    /// At most one block of the disk changes, and none while the first call is one that will be refused or writes no file.
+    /// A call must be under way. At most one block of the disk changes, and none while the first call is one that will be refused or
+    /// writes no file.
     pub fn complete(&mut self, ram: &mut Ram) -> FileNotes
         requires busy { are_calls self.old.work.calls ≡ true }
         ensures completed { (let after : FileStep = record { work = self.new.work; memory = ram.new; notes = map note_of result.items } in
@@ -209,7 +213,8 @@ impl FileServer {
         notes
     }
 
-    /// Gives up what `p` asked for, once it was killed: the first call goes on without its caller, and the others are taken out. The disk stays.
+    /// Gives up what `p` asked for, once it was killed: the first call goes on without its caller, and the others are taken out. The disk
+    /// stays.
     pub fn forget(&mut self, p: Pid)
         ensures forgets { self.new.work ≡ calls_given_up p self.old.work }
         ensures image { self.new.image ≡ self.old.image }

@@ -41,8 +41,8 @@ impl Model for Heap {
 }
 
 impl Heap {
-    /// The heap from an address up to another, all of it free: both multiples of 8, in their order and in RAM. This call and `clone` alone take memory, for at most
-    /// `(high - low) / 16 + 1` records.
+    /// The heap from address `low` up to `high`, all of it free. Both are multiples of 8, `low` is at most `high`, and `high` is at most
+    /// 1048576, the size of RAM. This call and `clone` alone take memory, for at most `(high - low) / 16 + 1` records.
     ///
     /// # Errors
     ///
@@ -78,8 +78,8 @@ impl Heap {
         Some(self.low + 8 * first)
     }
 
-    /// Takes `n` bytes, rounded up to a multiple of 8, from the lowest free block that is large enough, and answers their address.
-    /// `None`, and nothing changes, if `n` is 0 or there is no such block.
+    /// Takes `n` bytes, rounded up to a multiple of 8, from the lowest free block that is large enough, and answers their address,
+    /// a multiple of 8; they lie in RAM. `None`, and nothing changes, if and only if `n` is 0 or there is no such block.
     pub fn getmem(&mut self, n: u32) -> Option<u32>
         ensures grants { IfSome result (λ a. heap.take_memory n self.old ≡ Some (record { address = a; heap = self.new })) }
         ensures refuses { IfNone result (heap.take_memory n self.old ≡ None) }
@@ -97,7 +97,8 @@ impl Heap {
     }
 
     /// Takes a stack of `n` bytes, rounded up to a multiple of 8, from the high end of the highest free block that is large enough,
-    /// and answers the address of its highest word. `None`, and nothing changes, if `n` is 0 or there is no such block.
+    /// and answers the address of its highest word, which lies in RAM. `None`, and nothing changes, if and only if `n` is 0 or there is no
+    /// such block.
     pub fn getstk(&mut self, n: u32) -> Option<u32>
         ensures grants { IfSome result (λ a. heap.take_stack n self.old ≡ Some (record { top = a; heap = self.new })) }
         ensures refuses { IfNone result (heap.take_stack n self.old ≡ None) }
@@ -116,8 +117,8 @@ impl Heap {
     }
 
     /// Gives back `n` bytes, rounded up to a multiple of 8, from address `a` on. They become a free block, or a part of the free
-    /// blocks that they touch. False, and nothing changes, if `n` is 0, `a` isn't a multiple of 8, or the range isn't in the heap
-    /// or meets a free block.
+    /// blocks that they touch. False, and nothing changes, if and only if `n` is 0, `a` isn't a multiple of 8, or the range isn't
+    /// in the heap or meets a free block.
     pub fn freemem(&mut self, a: u32, n: u32) -> bool
         ensures frees { heap.free_memory a n self.old ≡ (if result then Some self.new else None) }
         ensures stays { self.new ≡ unwrap_or (heap.free_memory a n self.old) self.old }
@@ -130,7 +131,7 @@ impl Heap {
     }
 
     /// Gives back a stack of `n` bytes, rounded up to a multiple of 8, whose highest word is at `a`. False, and nothing changes, if
-    /// the stack would begin below address 0, and as `freemem` of its bytes.
+    /// and only if the stack would begin below address 0, or `freemem` of its bytes is false.
     pub fn freestk(&mut self, a: u32, n: u32) -> bool
         ensures frees { heap.free_stack a n self.old ≡ (if result then Some self.new else None) }
         ensures stays { self.new ≡ unwrap_or (heap.free_stack a n self.old) self.old }
@@ -154,7 +155,8 @@ impl Heap {
         8 * self.cells.total()
     }
 
-    /// The address and the bytes of the first free block at address `a` or above. `None` if and only if there is none.
+    /// The address and the bytes of the first free block at address `a` or above, which isn't empty and lies in RAM. `None` if and only
+    /// if there is none.
     pub fn block_from(&self, a: u32) -> Option<(u32, u32)>
         ensures first { result ≡ find (λ b. nat_le a b.0) (heap.free_blocks self.now) }
         ensures some { IfSome result (λ b. 0 < b.1) }

@@ -27,7 +27,7 @@ pub enum Channel {
 /// Why a call of a host was refused.
 #[derive(Clone, Copy, PartialEq, Eq)]
 pub enum HostFault {
-    /// The world outside refused it. The host's count of faults rose in the call.
+    /// The world outside refused it. The host's count of faults rose in the call, or is at its end.
     Failed,
     /// There was no memory for it.
     NoMemory,
@@ -60,7 +60,8 @@ impl<T: Drop> From<AllocFailed<T>> for HostFault {
 pub trait Host {
     ghost view: { Self → Outside };
 
-    /// The first `max + 1` bytes of a file, or all of them if it has fewer. The call is added to those made, and no file or channel changes.
+    /// The first `max + 1` bytes of a file, or all of them if it has fewer. The call is added to those made, and no file or channel
+    /// changes.
     ///
     /// # Errors
     /// `Failed` if the file can't be read, and only if the count of faults rose or is at its end; `NoMemory`, and then the call
@@ -72,11 +73,12 @@ pub trait Host {
         ensures cause { HasCause (view self.old).faults (view self.new).faults result }
         ensures count { (view self.new).faults < 2 ^ 64 };
 
-    /// Says which file a channel writes, and makes the channel empty. `channel` is `Disk0`, `Disk1` or `Image`.
+    /// Says which file a channel writes, and makes the channel empty. `channel` is `Disk0`, `Disk1` or `Image`. The call is added to those
+    /// made.
     ///
     /// # Errors
-    /// `Failed` if the file can't be made, and only if the count of faults rose or is at its end; `NoMemory`. The channel is empty
-    /// then, or as before.
+    /// `Failed` if the file can't be made, and only if the count of faults rose or is at its end; `NoMemory`, and then the call
+    /// may not have been added. The channel is empty after either, or as before.
     fn name_out(&mut self, channel: Channel, path: &str) -> Result<(), HostFault>
         requires not_out { channel ≢ Channel.Out }
         requires not_fault { channel ≢ Channel.Fault }

@@ -38,7 +38,7 @@ pub fn dirs_of(bytes: &[u8]) -> u32
     }
 }
 
-/// The directory of an image: its counts and its entries, at most 78.
+/// The directory of an image: its counts and its entries, at most 78. The image has all the blocks of the disk.
 pub fn read_directory(
     alloc: Global,
     geometry: Geometry,
@@ -60,7 +60,7 @@ pub fn read_directory(
     }
 }
 
-/// The index blocks of an image.
+/// The index blocks of an image. The image has all the blocks of the disk.
 #[tactic(auto, using(crate::proofs::Numbered::numbered_more, crate::proofs::Numbered::numbered_none, crate::proofs::Numbered::length_numbered))]
 pub fn read_indexes(
     alloc: Global,
@@ -91,7 +91,7 @@ pub fn read_nexts(alloc: Global, indexes: &[Index]) -> Result<Vec<u32>, AllocErr
     Ok(nexts)
 }
 
-/// The first word of each block.
+/// The first word of each block of an image. The image has all the blocks of the disk.
 #[tactic(auto, using(crate::proofs::Numbered::numbered_more, crate::proofs::Numbered::numbered_none, crate::proofs::Numbered::length_numbered))]
 pub fn read_links(alloc: Global, geometry: Geometry, bytes: &[u8]) -> Result<Vec<u32>, AllocError>
     requires geometry { IsGeometry geometry }
@@ -106,7 +106,7 @@ pub fn read_links(alloc: Global, geometry: Geometry, bytes: &[u8]) -> Result<Vec
     Ok(links)
 }
 
-/// A block of an image.
+/// The bytes of a block, which must be in the image.
 pub fn block_at(bytes: &[u8], n: u32) -> [u8; 512]
     requires { 512 * n + 512 ≤ length bytes.now }
     ensures { result ≡ block_in bytes.now n }

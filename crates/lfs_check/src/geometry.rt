@@ -4,6 +4,9 @@ ghost use Rattle.std.specs.Prelude.{◌≡◌, ◌<◌};
 ghost use Rattle.lfs_check.specs.Geometries.{index_count, first_data, index_block, entry_block, IsGeometry};
 
 /// A disk of `blocks` blocks, of which the first `dirs` hold the directory: one in version 1, six in version 2.
+///
+/// [`indexes_on`], [`data_from`], [`block_of_index`] and the calls that read the fields of an image require that `dirs` is at most 6, and
+/// `blocks` from `dirs + 7` to 65542.
 #[derive(Clone, Copy)]
 pub struct Geometry {
     pub dirs: u32,
@@ -34,7 +37,7 @@ pub fn block_of_index(geometry: Geometry, index: u32) -> u32
     geometry.dirs + index / 7
 }
 
-/// The disk block of an entry.
+/// The disk block of an entry, whose number is below 78.
 pub fn block_of_entry(geometry: Geometry, entry: usize) -> u32
     requires few { entry < 78 }
     ensures { result ≡ entry_block geometry entry }

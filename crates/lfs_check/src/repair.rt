@@ -19,7 +19,7 @@ use crate::walks::Walk;
 use lfs_format::{Entry, NULL};
 use std::alloc::{AllocError, Global};
 
-/// The entries that are kept, in their order: each is whole, no lower whole entry has its name, and it shares no block with
+/// The entries that repair keeps, in their order: each is whole, no lower whole entry has its name, and it shares no block with
 /// another whole entry.
 pub fn kept_entries(
     alloc: Global,

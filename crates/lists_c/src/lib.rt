@@ -3,6 +3,8 @@
 //! So a program in C that has lists of its own notes the calls on them, and asks what the proved ones answer: the first answer that
 //! differs is the first mistake. `examples/lists_in_c` has such a program.
 //!
+//! [`list_answers`] is the call: its answers are those of `answers_of` in `specs/Answers.antt`.
+//!
 //! The archive needs `rattle_alloc`, `rattle_realloc` and `rattle_dealloc`, which the toolchain's C library has.
 #![tactic(auto)]
 
@@ -27,7 +29,8 @@ pub const NO_MEMORY: u32 = 2;
 
 /// Makes these calls, one after another, on lists that are empty at first, and writes what each answers.
 ///
-/// There are as many answers as calls. What each kind of call answers is said at [`ListCall::kind`].
+/// Answers [`ANSWERED`]; [`NO_ROOM`] if and only if there aren't as many answers as calls; or [`NO_MEMORY`]. In the last two cases
+/// nothing is written. What each kind of call answers is said at [`ListCall::kind`].
 #[unsafe(no_mangle)]
 pub extern "C" fn list_answers(alloc: Global, calls: &[ListCall], answers: &mut [i64]) -> u32
     ensures answered { (result ≡ 0) → (answers.new ≡ answers_of no_lists calls.now) }

@@ -27,7 +27,7 @@ pub struct Detector {
 }
 
 impl Detector {
-    /// Nothing has happened.
+    /// A detector of the history in which nothing happens.
     ///
     /// # Errors
     ///
@@ -52,7 +52,7 @@ impl Detector {
         self.clocks.count()
     }
 
-    /// An edge comes to a process from the part whose clock has this name.
+    /// An edge comes to a process from the part whose clock has this name. The process is below 64, and the name below the count.
     pub fn learn(&mut self, process: usize, name: usize)
         requires process_in { process < 64 }
         requires name_in { name < count self.old.clocks }
@@ -65,7 +65,7 @@ impl Detector {
         self.clocks.learn(process, name);
     }
 
-    /// Edges come, one after another.
+    /// Edges come, one after another, each as [`Detector::learn`] takes it.
     pub fn learn_all(&mut self, edges: &[Known])
         requires within { AreWithin edges.now self.old }
         ensures learnt { (parts : ℕ → ℕ → Clock) (before : ℕ → Clock) (done more : List Edge) →
@@ -80,7 +80,7 @@ impl Detector {
         }
     }
 
-    /// Keeps the clock of a process's part in event `n`, and answers its name.
+    /// Keeps the clock of a process's part in event `n`, and answers its name, which is the count before. The process is below 64.
     ///
     /// # Errors
     ///
@@ -99,7 +99,8 @@ impl Detector {
         self.clocks.keep(n, process)
     }
 
-    /// Keeps the clock of a process's part in event `n` under a name, in place of the clock that had it.
+    /// Keeps the clock of a process's part in event `n` under a name, in place of the clock that had it. The process is below 64, and the
+    /// name below the count.
     pub fn keep_as(&mut self, name: usize, n: u32, process: usize)
         requires name_in { name < count self.old.clocks }
         requires process_in { process < 64 }
@@ -113,7 +114,7 @@ impl Detector {
         self.clocks.keep_as(name, n, process);
     }
 
-    /// An access to a byte: tells what it races with, and enters it.
+    /// An access to a byte: tells what it races with, and enters it. The byte's address is below 1048576, and the process below 64.
     ///
     /// # Errors
     ///
@@ -130,7 +131,7 @@ impl Detector {
         Ok(())
     }
 
-    /// So many bytes get a new owner.
+    /// So many bytes get a new owner, from the address `first` on. They end at 1048576 at most.
     pub fn give(&mut self, first: usize, count: usize)
         requires bytes_in { first + count ≤ 1048576 }
         ensures reached { (h : List Moment) (n j : ℕ) → deed_at h (time n j) ≡ Some (Given first count) →
@@ -140,7 +141,7 @@ impl Detector {
         self.entries.give(first, count);
     }
 
-    /// A deed: an access, or bytes that get a new owner.
+    /// A deed: an access, or bytes that get a new owner, as [`Detector::access`] and [`Detector::give`] take them.
     ///
     /// # Errors
     ///
@@ -158,7 +159,7 @@ impl Detector {
         Ok(())
     }
 
-    /// The deeds of an event, one after another.
+    /// The deeds of an event, one after another, each as [`Detector::act`] takes it.
     ///
     /// # Errors
     ///
@@ -175,7 +176,8 @@ impl Detector {
         Ok(())
     }
 
-    /// Begins a moment: the edges to the process that steps come, and the deeds are done.
+    /// Begins a moment: the edges to the process that steps come, and the deeds are done, as [`Detector::learn_all`] and
+    /// [`Detector::act_all`] take them.
     ///
     /// # Errors
     ///
@@ -194,7 +196,8 @@ impl Detector {
         Ok(())
     }
 
-    /// Ends a moment: the edges to the other processes come.
+    /// Ends a moment: the edges to the other processes come, as [`Detector::learn_all`] takes them. Then it is a detector of the history
+    /// with that moment.
     pub fn end(&mut self, edges: &[Known])
         requires edges_in { AreWithin edges.now self.old }
         ensures ended { (h : List Moment) (m : Moment) →

@@ -11,7 +11,8 @@ use race_clocks::Clocks;
 use race_entries::{Entries, Entry};
 use std::alloc::AllocError;
 
-/// Tells the entries of a byte with which an access to it races, each with the access.
+/// Tells the entries of a byte with which an access to it races, each with the access, after what was told before. Each entry of a byte is
+/// the last access of its kind and process. The byte's address is below 1048576, and the process below 64.
 ///
 /// # Errors
 ///

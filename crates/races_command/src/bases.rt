@@ -62,7 +62,7 @@ pub fn events_of(alloc: Global, schedule: &mut Schedule) -> Result<Vec<Event>, F
     Ok(events)
 }
 
-/// Judges the numbers that were asked for.
+/// Judges the numbers that were asked for: if they are accepted, they are the limits. The base has at most 1000000 events.
 ///
 /// # Errors
 /// `TooMany` if and only if there are more than three quantum ends; else `TooFar` if and only if the base has fewer steps.

@@ -98,7 +98,9 @@ fn row_numbered(table: &[Row], outcome: u64) -> Option<&Row>
     table.get((outcome - 1) as usize)
 }
 
-/// The schedule file of the base's events with a placement of quantum ends.
+/// The schedule file of the base's events with a placement of quantum ends. Read as a schedule, it gives these events.
+///
+/// The base has at most 1000000 events, and there are at most three places, in ascending order.
 ///
 /// # Errors
 /// `NoMemory`.

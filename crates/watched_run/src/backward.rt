@@ -27,7 +27,10 @@ struct Found {
     stopped: Stopped,
 }
 
-/// Goes back to the last place at which the run, on its way back, would have stopped; to its beginning, if there is none.
+/// Goes back to the last place at which the run, on its way back, would have stopped; to its beginning, if there is none. Answers why it
+/// stopped, and the process that this is told of. All this is so if it is known what the events printed.
+///
+/// It stays the same run, watched for the same, and no trap counts as told afterwards.
 ///
 /// # Errors
 /// Out of memory; `Failed` if an event printed something else when it was taken before.

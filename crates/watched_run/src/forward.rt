@@ -16,7 +16,10 @@ use gdb_answers::Stop;
 use host_port::HostFault;
 use xinu_base::Pid;
 
-/// Takes events until the run is to stop. The digits of the console's bytes go to `console`.
+/// Takes events as long as nothing stops the run, and stops with the next one, or at the run's end. Answers why it stopped, and the process
+/// that this is told of. The digits of the console's bytes go to `console`.
+///
+/// It stays the same run, watched for the same. A trap at which it stopped was told then, and isn't told once more.
 ///
 /// # Errors
 /// Out of memory; `Failed` if an event printed something else when it was taken before.

@@ -66,7 +66,7 @@ impl WatchedRun {
         Ok(())
     }
 
-    /// The run is to stop after a change of these bytes. `false` if they are too many.
+    /// The run is to stop after a change of these bytes. `false`, and nothing changes, if and only if they are more than eight.
     ///
     /// # Errors
     /// Out of memory.

@@ -5,9 +5,10 @@
 //! `--disk0` and `--disk1` and writes them to `--out0` and `--out1`; `check --schedule FILE --trace FILE IMAGE ..`, which says of a text
 //! whether it is the transcript of a run; `asm SOURCE --out FILE`, which writes an ELF file with `--elf`; `disk` with six actions: `mkfs`,
 //! `ls`, `get`, `put`, `check` and `repair`; and `soak N`, which prints a summary. Each goes over any host. The inputs of `run` and `check` are
-//! fetched and judged by `run_inputs`, which also has the refusals. [`xinu`] is the top call: its status, what it sends and the machine that is
-//! left are what the bytes of the host's files deserve (`specs/Theorem.antt`). [`laws`] says what each exit status means, which files are asked for,
-//! and that what `asm` writes loads.
+//! fetched and judged by `run_inputs`, which also has the refusals.
+//!
+//! [`xinu`] is the top call: its status, what it sends and the machine that is left are what the bytes of the host's files deserve
+//! (`specs/Theorem.antt`). [`laws`] says what each exit status means, which files are asked for, and that what `asm` writes loads.
 #![tactic(auto)]
 
 mod asm_command;
