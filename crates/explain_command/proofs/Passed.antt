@@ -1,8 +1,10 @@
--- What is noted of strays and of refused calls, after one event more.
-use Rattle.std.proofs.Common.{◌≡◌, ◌∙◌, ℕ, suc, List, [], ◌∷◌, ◌++◌, refl, sym, subst, ap, arith, inl, inr}
+-- What is noted of strays, of refused calls and of lives, after one event more.
+use Rattle.std.proofs.Common.{◌≡◌, ◌∙◌, ◌<◌, ℕ, suc, List, [], ◌∷◌, ◌++◌, refl, sym, subst, ap, arith, inl, inr}
 use Rattle.std.specs.Prelude.{length, slice_get, Option, Some}
-use Rattle.explain_command.specs.Passing.{HasNoted, HasRefused, Passes, TakesNext}
+use Rattle.explain_command.specs.Passing.{HasLived, HasNoted, HasRefused, Passes, TakesNext}
 use Rattle.memory_strays.specs.Strays.{Noted, note_event, noted, nothing_noted}
+use Rattle.process_lives.specs.Lives.{first_life, life_in, life_of, next_life}
+use Rattle.process_lives.specs.declared.lives.Life.{Life}
 use Rattle.refused_calls.specs.Refusals.{refusals_of, refused_in}
 use Rattle.refused_calls.specs.declared.refused.Refused.{Refused}
 use Rattle.replayed_run.specs.Progress.{TakesEvent, TakesSteps}
@@ -95,3 +97,29 @@ taken_after old mid new printed none event =
 pub noted_none : (r : Replayed) → r.taken ≡ 0 → HasNoted r r (nothing_noted r.files)
 unfolding Passes noted
 noted_none r none = record { states = []; passes = refl; many = sym none; notes = refl }
+
+-- the life of a process by one state more
+life_more : (p : ℕ) (ahead : Xinu) (earlier : List Xinu) (s : Xinu)
+    → life_of p (ahead ∷ earlier) s ≡ next_life (suc (length earlier)) s.tables p (life_of p earlier ahead)
+unfolding life_of
+life_more p ahead earlier s = refl
+
+-- the lives after the event that is taken next
+pub lived_next : (old mid new : Replayed) (x y : List Life) → HasLived old mid x → TakesNext mid new
+    → ((p : ℕ) → p < 64 → life_in y p ≡ next_life new.taken new.state.tables p (life_in x p)) → HasLived old new y
+lived_next old mid new x y so takes noted =
+    let many : suc (length so.states) ≡ new.taken = ap suc so.many ∙ sym (next_taken mid new takes) in
+    record {
+      states = mid.state ∷ so.states;
+      passes = passed_more old mid new so.states so.passes takes;
+      many = many;
+      are = λ p low. noted p low
+          ∙ ap (λ life. next_life new.taken new.state.tables p life) (so.are p low)
+          ∙ ap (λ n. next_life n new.state.tables p (life_of p so.states mid.state)) (sym many)
+          ∙ sym (life_more p mid.state so.states new.state);
+    }
+
+-- the lives at the beginning
+pub lived_none : (r : Replayed) (x : List Life) → r.taken ≡ 0 → ((p : ℕ) → p < 64 → life_in x p ≡ first_life r.state.tables p) → HasLived r r x
+unfolding Passes life_of
+lived_none r x none first = record { states = []; passes = refl; many = sym none; are = first }

@@ -1,6 +1,8 @@
--- The states through which a run comes as it is told, and what is noted of strays and of refused calls in them.
-use Rattle.std.specs.Prelude.{◌≡◌, ◌⊎◌, ℕ, List, [], ◌∷◌, length, Option}
+-- The states through which a run comes as it is told, and what is noted of strays, of refused calls and of what each process does in them.
+use Rattle.std.specs.Prelude.{◌≡◌, ◌⊎◌, ◌<◌, ℕ, List, [], ◌∷◌, length, Option}
 use Rattle.memory_strays.specs.Strays.{Noted, noted}
+use Rattle.process_lives.specs.Lives.{life_in, life_of}
+use Rattle.process_lives.specs.declared.lives.Life.{Life}
 use Rattle.refused_calls.specs.Refusals.{refusals_of}
 use Rattle.refused_calls.specs.declared.refused.Refused.{Refused}
 use Rattle.replayed_run.specs.Progress.{TakesEvent, TakesSteps}
@@ -36,3 +38,10 @@ pub record HasRefused (old new : Replayed) (calls : List Refused) : Type 0 where
   pub passes : Passes old states new
   pub many : length states ≡ new.taken
   pub are : calls ≡ refusals_of new.events states
+
+-- The lives of the processes are those in this state, by the states ahead of the events that were taken since the beginning of the run.
+pub record HasLived (old new : Replayed) (lives : List Life) : Type 0 where
+  pub states : List Xinu
+  pub passes : Passes old states new
+  pub many : length states ≡ new.taken
+  pub are : (p : ℕ) → p < 64 → life_in lives p ≡ life_of p states new.state

@@ -1,7 +1,7 @@
 -- What is told of a run. Read `TellsRun`, at the end, first.
 use Rattle.std.specs.Prelude.{◌≡◌, ◌⊎◌, ◌==◌, ◌||◌, ℕ, Bool, true, false, List, [], ◌++◌, map, Option, Some, None, Result, Ok, Err}
 use Rattle.explain_command.specs.Ends.{HasEnded, call_text}
-use Rattle.explain_command.specs.Passing.{HasRefused}
+use Rattle.explain_command.specs.Passing.{HasLived, HasRefused}
 use Rattle.explain_command.specs.Refusals.{AreRefusals, kinds_told}
 use Rattle.explain_command.specs.Traces.{IsUnstarted, SendsPart}
 use Rattle.explain_command.specs.Words.{Asked}
@@ -10,6 +10,7 @@ use Rattle.given_disks.specs.Disks.{disks_of}
 use Rattle.host_port.specs.HostCalls.{Rose}
 use Rattle.host_port.specs.Outside.{Outside, appended, counted}
 use Rattle.host_port.specs.declared.host.Channel.TheVariants.{Out}
+use Rattle.process_lives.specs.declared.lives.Life.{Life}
 use Rattle.refused_calls.specs.declared.kinds.Kind.{Kind}
 use Rattle.refused_calls.specs.declared.refused.Refused.{Refused}
 use Rattle.replayed_run.specs.Replayed.{HasInputs, IsReplayed, Replayed, is_at_end}
@@ -26,8 +27,8 @@ use Rattle.xinu_base.specs.declared.events.End.{End}
 
 -- A text tells how a run ended, in a line: after the list of events, which is empty unless one is asked for, and ahead of all else. The line has
 -- the end, the number of events that were taken and the tick of the state. After traps and strays it tells of these kinds of refused calls, and then
--- of the processes that are left.
-pub record HasParts (steps : Option (ℕ × ℕ)) (kinds : List Kind) (r : Replayed) (end : End) (text : List ℕ) : Type 0 where
+-- of the processes that are left, with these lives.
+pub record HasParts (steps : Option (ℕ × ℕ)) (kinds : List Kind) (lives : List Life) (r : Replayed) (end : End) (text : List ℕ) : Type 0 where
   pub listing : List ℕ
   pub unlisted : steps ≡ None → listing ≡ []
   pub panicked : Option Sight
@@ -35,11 +36,12 @@ pub record HasParts (steps : Option (ℕ × ℕ)) (kinds : List Kind) (r : Repla
   pub refused : List ℕ
   pub refusals : AreRefusals kinds refused
   pub left : List ℕ
-  pub told : AreTold r.files r.state 63 left
+  pub told : AreTold r.files r.state lives 63 left
   pub rest : List ℕ
   pub is : text ≡ listing ++ ending_line end r.taken r.state.tables.ticks (call_text panicked) ++ traps ++ refused ++ left_head r.state.tables ++ left ++ rest
 
--- It is the story of a run: the run went on to its end, and that is told, with the calls that were refused in its events: each, or each kind once.
+-- It is the story of a run: the run went on to its end, and that is told, with the calls that were refused in its events, each, or each kind once, and
+-- with what each process does that is left, and since when.
 pub record IsStory (steps : Option (ℕ × ℕ)) (each : Bool) (r : Replayed) (text : List ℕ) : Type 0 where
   pub last : Replayed
   pub inputs : HasInputs r.disks r.files r.events last
@@ -47,7 +49,9 @@ pub record IsStory (steps : Option (ℕ × ℕ)) (each : Bool) (r : Replayed) (t
   pub ended : HasEnded last end
   pub calls : List Refused
   pub refuses : HasRefused r last calls
-  pub parts : HasParts steps (kinds_told each calls) last end text
+  pub lives : List Life
+  pub lived : HasLived r last lives
+  pub parts : HasParts steps (kinds_told each calls) lives last end text
 
 -- It tells the state of a run after so many events, or after all if it has fewer. The first line has the number of events that were taken and the
 -- tick of the state.

@@ -1,11 +1,12 @@
 //! The run that is told: its events are taken, and what comes of each is told.
 
-ghost use Rattle.std.specs.Prelude.{◌≡◌, ◌<◌, ◌≤◌, ◌==◌, ◌||◌, ◌++◌, [], false, true, IfOk, OnOk, Some};
+ghost use Rattle.std.specs.Prelude.{◌≡◌, ◌<◌, ◌≤◌, ◌==◌, ◌||◌, ◌++◌, ℕ, [], false, true, IfOk, OnOk, Some};
 ghost use Rattle.explain_command.specs.Ends.{EndsAs, HasEnded};
-ghost use Rattle.explain_command.specs.Passing.{HasNoted, HasRefused, TakesNext};
+ghost use Rattle.explain_command.specs.Passing.{HasLived, HasNoted, HasRefused, TakesNext};
 ghost use Rattle.explain_command.specs.Stories.{IsStateText, IsStory};
 ghost use Rattle.machine.specs.RunEnds.{end_of_go};
 ghost use Rattle.memory_strays.specs.Strays.{nothing_noted};
+ghost use Rattle.process_lives.specs.Lives.{first_life, life_in, next_life};
 ghost use Rattle.refused_calls.specs.Refusals.{refused_in};
 ghost use Rattle.replayed_run.specs.Replayed.{HasInputs, is_at_end};
 ghost use Rattle.xinu_model.specs.Text.{tables_of, text};
@@ -17,6 +18,7 @@ use crate::words::is_listed;
 use host_port::HostFault;
 use machine::Go;
 use memory_strays::Strays;
+use process_lives::Lives;
 use refused_calls::RefusedCalls;
 use replayed_run::{Printed, Replay};
 use run_story::Story;
@@ -40,11 +42,13 @@ pub(crate) fn tell(
     let mut telling = Telling::new(alloc)?;
     let mut strays = Strays::new(alloc, replay.files())?;
     let mut refused = RefusedCalls::new(alloc);
+    let mut lives = Lives::new(&replay.state().tables);
     tell_run(
         replay,
         &mut telling,
         &mut strays,
         &mut refused,
+        &mut lives,
         steps,
         tells_each,
     )
@@ -59,15 +63,21 @@ pub(crate) fn tell_at(alloc: Global, replay: &mut Replay, events: u32) -> Result
     ensures tells { IfOk result (λ text. IsStateText events replay.old text.items) }
 {
     let mut telling = Telling::new(alloc)?;
+    let mut lives = Lives::new(&replay.state().tables);
     telling.story.begin(tables(replay)?.lines());
-    take_until(replay, &mut telling, events)?;
+    take_until(replay, &mut telling, &mut lives, events)?;
     replay.runs();
-    Ok(telling.state_text(replay, tables(replay)?.lines())?)
+    Ok(telling.state_text(replay, &lives, tables(replay)?.lines())?)
 }
 
 // Takes the next events until so many were taken, or the run ends.
 #[inline(never)]
-fn take_until(replay: &mut Replay, telling: &mut Telling, events: u32) -> Result<(), HostFault>
+fn take_until(
+    replay: &mut Replay,
+    telling: &mut Telling,
+    lives: &mut Lives,
+    events: u32,
+) -> Result<(), HostFault>
     requires few { replay.old.taken ≤ events }
     ensures inputs { OnOk result (HasInputs replay.old.disks replay.old.files replay.old.events replay.new) }
     ensures reached { OnOk result ((replay.new.taken == events || is_at_end replay.new) ≡ true) }
@@ -77,6 +87,7 @@ fn take_until(replay: &mut Replay, telling: &mut Telling, events: u32) -> Result
             return Ok(());
         }
         take_event(replay, event, telling, None)?;
+        note_lives(replay, lives);
     }
     Ok(())
 }
@@ -87,6 +98,7 @@ fn tell_run(
     telling: &mut Telling,
     strays: &mut Strays,
     refused: &mut RefusedCalls,
+    lives: &mut Lives,
     steps: Option<(u64, u64)>,
     tells_each: bool,
 ) -> Result<Vec<u8>, HostFault>
@@ -94,14 +106,16 @@ fn tell_run(
     requires goes_on { replay.old.over ≡ false }
     requires none { strays.old ≡ nothing_noted replay.old.files }
     requires no_refusal { refused.old ≡ [] }
+    requires first { (p : ℕ) → p < 64 → life_in lives.old p ≡ first_life replay.old.state.tables p }
     ensures strays { IfOk result (λ _. HasNoted replay.old replay.new strays.new) }
     ensures refusals { IfOk result (λ _. HasRefused replay.old replay.new refused.new) }
+    ensures lived { IfOk result (λ _. HasLived replay.old replay.new lives.new) }
     ensures tells { IfOk result (λ text. IsStory steps tells_each replay.old text.items) }
 {
     telling.story.begin(tables(replay)?.lines());
-    let end = take_events(replay, telling, strays, refused, steps)?;
+    let end = take_events(replay, telling, strays, refused, lives, steps)?;
     tell_unsent(&mut telling.story, replay.state())?;
-    Ok(telling.text(replay, refused, tells_each, end, steps)?)
+    Ok(telling.text(replay, refused, lives, tells_each, end, steps)?)
 }
 
 // Takes the events until the run ends.
@@ -111,21 +125,26 @@ fn take_events(
     telling: &mut Telling,
     strays: &mut Strays,
     refused: &mut RefusedCalls,
+    lives: &mut Lives,
     steps: Option<(u64, u64)>,
 ) -> Result<End, HostFault>
     requires begins { replay.old.taken ≡ 0 }
     requires goes_on { replay.old.over ≡ false }
     requires none { strays.old ≡ nothing_noted replay.old.files }
     requires no_refusal { refused.old ≡ [] }
+    requires first { (p : ℕ) → p < 64 → life_in lives.old p ≡ first_life replay.old.state.tables p }
     ensures strays { IfOk result (λ _. HasNoted replay.old replay.new strays.new) }
     ensures refusals { IfOk result (λ _. HasRefused replay.old replay.new refused.new) }
+    ensures lived { IfOk result (λ _. HasLived replay.old replay.new lives.new) }
     ensures inputs { IfOk result (λ _. HasInputs replay.old.disks replay.old.files replay.old.events replay.new) }
     ensures ended { IfOk result (λ end. HasEnded replay.new end) }
 {
     while let Some(event) = replay.next() {
         telling.note(event, replay, strays);
         note_refused(event, replay, refused)?;
-        match take_event(replay, event, telling, steps)? {
+        let go = take_event(replay, event, telling, steps)?;
+        note_lives(replay, lives);
+        match go {
             Go::Goes => {}
             Go::Done => return Ok(End::Done),
             Go::Panic => return Ok(End::Panic),
@@ -140,6 +159,13 @@ fn note_refused(event: Event, replay: &Replay, refused: &mut RefusedCalls) -> Re
     ensures noted { OnOk result (refused.new ≡ refused.old ++ refused_in (Some event) replay.now.taken replay.now.state) }
 {
     refused.note(event, replay.state(), replay.taken())
+}
+
+// Notes what each process does after the event that was just taken.
+fn note_lives(replay: &Replay, lives: &mut Lives)
+    ensures noted { (p : ℕ) → p < 64 → life_in lives.new p ≡ next_life replay.now.taken replay.now.state.tables p (life_in lives.old p) }
+{
+    lives.note(&replay.state().tables, replay.taken() as u64);
 }
 
 // Takes the event that comes next, and tells what came of it: nothing of a step that prints nothing, unless it is listed.

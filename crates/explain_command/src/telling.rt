@@ -23,6 +23,7 @@ use crate::traps::{add_trap, add_trap_place};
 use crate::words::number_after;
 use memory_strays::Strays;
 use printed_runs::{PROCESSES, Text};
+use process_lives::Lives;
 use refused_calls::RefusedCalls;
 use replayed_run::Replay;
 use run_story::{Loops, Story};
@@ -120,11 +121,12 @@ impl Telling {
         &self,
         replay: &Replay,
         refused: &RefusedCalls,
+        lives: &Lives,
         tells_each: bool,
         end: End,
         steps: Option<(u64, u64)>,
     ) -> Result<Vec<u8>, AllocError>
-        ensures parts { IfOk result (λ text. HasParts steps (kinds_told tells_each refused.now) replay.now end text.items) }
+        ensures parts { IfOk result (λ text. HasParts steps (kinds_told tells_each refused.now) lives.now replay.now end text.items) }
     {
         let mut told = Vec::new(self.alloc);
         told.extend_from_slice(self.list_asked(steps).as_bytes())?;
@@ -134,7 +136,7 @@ impl Telling {
         let refusals = self.refusals(replay, refused, tells_each)?;
         told.extend_from_slice(refusals.as_slice())?;
         told.extend_from_slice(head_of(replay).as_bytes())?;
-        let left = left_text(self.alloc, replay, &self.story)?;
+        let left = left_text(self.alloc, replay, lives, &self.story)?;
         told.extend_from_slice(left.as_slice())?;
         let rest = self.rest(replay, end)?;
         told.extend_from_slice(rest.as_bytes())?;
@@ -193,21 +195,31 @@ impl Telling {
     ///
     /// # Errors
     /// Out of memory, also if it ran out before.
-    pub(crate) fn state_text(&self, replay: &Replay, tables: &str) -> Result<Vec<u8>, AllocError>
+    pub(crate) fn state_text(
+        &self,
+        replay: &Replay,
+        lives: &Lives,
+        tables: &str,
+    ) -> Result<Vec<u8>, AllocError>
         ensures parts { IfOk result (λ text. (rest : List ℕ) × (text.items ≡ after_line replay.now.taken replay.now.state.tables.ticks ++ rest)) }
     {
         let mut told = Vec::new(self.alloc);
         push_after(&mut told, replay)?;
-        let rest = self.state_rest(replay, tables)?;
+        let rest = self.state_rest(replay, lives, tables)?;
         told.extend_from_slice(rest.as_slice())?;
         Ok(told)
     }
 
     // What is told of a state after the first line.
-    fn state_rest(&self, replay: &Replay, tables: &str) -> Result<Vec<u8>, AllocError> {
+    fn state_rest(
+        &self,
+        replay: &Replay,
+        lives: &Lives,
+        tables: &str,
+    ) -> Result<Vec<u8>, AllocError> {
         let mut told = Vec::new(self.alloc);
         for number in 1..PROCESSES {
-            let text = process_text(self.alloc, replay, &self.story, number)?;
+            let text = process_text(self.alloc, replay, lives, &self.story, number)?;
             if !text.is_empty() {
                 told.extend_from_slice(text.as_slice())?;
                 let more = self.process_rest(replay, tables, number)?;

@@ -10,9 +10,9 @@ use printed_runs::{Doing, PROCESSES, Reader, Text, Usage, User};
 
 /// The process that holds the lock for which a process waits, if that process still lives and can't go on.
 fn next(lives: &Lives, reader: &Reader, p: usize) -> Option<usize> {
-    let holder = holder(reader, lives.life(p).doing)?;
+    let holder = holder(reader, lives.doing(p))?;
     let process = holder.process.index();
-    let other = lives.life(process).doing;
+    let other = lives.doing(process);
     if holder.is_past || !other.lives() || other.is_ready() {
         return None;
     }
@@ -80,7 +80,7 @@ fn add_circle(text: &mut Text, lives: &Lives, reader: &Reader, p: usize) {
         });
         lives.add_who(text, at);
         text.put(" waits for ");
-        lives.life(at).doing.add_word(text);
+        lives.doing(at).add_word(text);
         text.put(", which ");
         lives.add_who(text, other);
         text.put(" took last");
@@ -95,6 +95,6 @@ fn add_circle(text: &mut Text, lives: &Lives, reader: &Reader, p: usize) {
 fn add_alone(text: &mut Text, lives: &Lives, p: usize) {
     lives.add_who(text, p);
     text.put(" waits for ");
-    lives.life(p).doing.add_word(text);
+    lives.doing(p).add_word(text);
     text.put(", which it took itself and didn't signal.\n");
 }

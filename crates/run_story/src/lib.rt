@@ -11,13 +11,12 @@
 mod circles;
 mod console;
 mod endings;
-mod left;
 mod lives;
 mod loops;
 mod story;
 mod traps;
+mod usages;
 
 pub use endings::{push_ending, push_state_head};
-pub use left::LeftWords;
 pub use loops::Loops;
 pub use story::Story;

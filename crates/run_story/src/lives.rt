@@ -1,34 +1,13 @@
-//! What each process does, and since when.
+//! What each process does, and its name.
 
 use printed_runs::{ABSENT, Doing, PROCESSES, Shown, Text, made_as};
 use std::alloc::Global;
-use xinu_base::State;
-
-/// What a process does, and since when.
-#[derive(Clone, Copy)]
-pub(crate) struct Life {
-    pub(crate) doing: Doing,
-    /// The number of the event since which it does so, 0 if it did from the start.
-    pub(crate) since: u64,
-    /// The ticks at that event.
-    pub(crate) tick: u32,
-    /// Whether it ever ran.
-    pub(crate) has_run: bool,
-}
-
-/// No process.
-const NOBODY: Life = Life {
-    doing: ABSENT,
-    since: 0,
-    tick: 0,
-    has_run: false,
-};
 
 /// The processes by their numbers, and their names.
 #[derive(Drop)]
 pub(crate) struct Lives {
     alloc: Global,
-    pub(crate) lives: [Life; PROCESSES],
+    doings: [Doing; PROCESSES],
     names: Vec<Text>,
     /// Whether memory never ran out for the names.
     pub(crate) is_whole: bool,
@@ -39,7 +18,7 @@ impl Lives {
     pub(crate) fn new(alloc: Global) -> Lives {
         let mut lives = Lives {
             alloc,
-            lives: [NOBODY; PROCESSES],
+            doings: [ABSENT; PROCESSES],
             names: Vec::new(alloc),
             is_whole: true,
         };
@@ -55,29 +34,22 @@ impl Lives {
         self.is_whole = self.is_whole && self.names.push(name).is_ok();
     }
 
-    /// Notes what the processes do after the event of a number.
-    pub(crate) fn change(&mut self, number: u64, shown: &Shown, tables: &str) {
+    /// Notes what the processes do, as these tables show it.
+    pub(crate) fn change(&mut self, shown: &Shown, tables: &str) {
         for (p, doing) in shown.doings.iter().enumerate() {
-            if self.life(p).doing != *doing {
-                self.change_one(p, *doing, number, shown.ticks, tables);
+            if self.doing(p) != *doing {
+                self.change_one(p, *doing, tables);
             }
         }
     }
 
     // Notes what the process of a number does now.
-    fn change_one(&mut self, p: usize, doing: Doing, number: u64, tick: u32, tables: &str) {
-        let was = self.life(p);
-        if !was.doing.lives() {
+    fn change_one(&mut self, p: usize, doing: Doing, tables: &str) {
+        if !self.doing(p).lives() {
             self.name(p, tables);
         }
-        let has_run = was.has_run && was.doing.lives();
-        if let Some(place) = self.lives.get_mut(p) {
-            *place = Life {
-                doing,
-                since: number,
-                tick,
-                has_run: has_run || matches!(doing.state, State::Current),
-            };
+        if let Some(place) = self.doings.get_mut(p) {
+            *place = doing;
         }
     }
 
@@ -89,9 +61,9 @@ impl Lives {
         }
     }
 
-    /// The process of a number.
-    pub(crate) fn life(&self, p: usize) -> Life {
-        self.lives.get(p).copied().unwrap_or(NOBODY)
+    /// What the process of a number does.
+    pub(crate) fn doing(&self, p: usize) -> Doing {
+        self.doings.get(p).copied().unwrap_or(ABSENT)
     }
 
     /// Adds the number and the name of a process, as `2 alice`.

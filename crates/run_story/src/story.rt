@@ -7,9 +7,9 @@ ghost use Rattle.run_story.specs.Said.{said_by};
 
 use crate::circles::add_circles;
 use crate::console::Stream;
-use crate::left::{LeftWords, left_words};
 use crate::lives::Lives;
 use crate::traps::add_trap;
+use crate::usages::add_usage;
 use printed_runs::{Reader, Shown, Text};
 use std::alloc::Global;
 use xinu_base::Event;
@@ -19,9 +19,8 @@ pub struct Story {
     alloc: Global,
     reader: Reader,
     lives: Lives,
-    /// How many events were taken, and the ticks so far.
+    /// How many events were taken.
     events: u64,
-    ticks: u32,
     /// What was typed, and what the console sent.
     typed: Stream,
     sent: Stream,
@@ -39,7 +38,6 @@ impl Drop for Story {
             reader: _reader,
             lives: _lives,
             events: _events,
-            ticks: _ticks,
             typed: _typed,
             sent: _sent,
             unsent: _unsent,
@@ -59,7 +57,6 @@ impl Story {
             reader: Reader::new(),
             lives: Lives::new(alloc),
             events: 0,
-            ticks: 0,
             typed: Stream::new(alloc),
             sent: Stream::new(alloc),
             unsent: Stream::new(alloc),
@@ -124,9 +121,9 @@ impl Story {
         text.add(&self.traps);
     }
 
-    /// What is told of a process that is left beside what the state says of it: since which event it does that, and what else.
-    pub fn left_words(&self, process: usize) -> LeftWords {
-        left_words(self.alloc, &self.lives, &self.reader, process, self.ticks)
+    /// Tells how the semaphore was used for which a process waits, if it waits for one that processes made.
+    pub fn tell_usage(&self, text: &mut Text, process: usize) {
+        add_usage(text, &self.lives, &self.reader, self.lives.doing(process));
     }
 
     /// Tells who waits in a circle, and what the console showed.
@@ -169,8 +166,7 @@ impl Story {
         ensures reader { self.new.reader ≡ self.old.reader }
     {
         let shown: Shown = self.reader.read(tables);
-        self.ticks = shown.ticks;
-        self.lives.change(self.events, &shown, tables);
+        self.lives.change(&shown, tables);
     }
 
     // Tells of a trap, if the lines of an event do.

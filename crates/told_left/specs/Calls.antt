@@ -1,5 +1,5 @@
 -- A call in words.
-use Rattle.std.specs.Prelude.{ℕ, if◌then◌else◌, List, [], ◌∷◌, ◌++◌, map, take, codes}
+use Rattle.std.specs.Prelude.{ℕ, if◌then◌else◌, List, [], ◌∷◌, ◌++◌, take, codes}
 use Rattle.xinu_base.specs.Syscalls.{name_of, args_of, is_call}
 use Rattle.xinu_base.specs.declared.syscalls.Call.{Call}
 use Rattle.xinu_model.specs.Text.{signed_field}

@@ -1,25 +1,29 @@
 //! The processes that are left in a state.
 
-ghost use Rattle.std.specs.Prelude.{◌≡◌, ◌+◌, ◌++◌, ◌<◌, ℕ, List, IfOk, OnOk, map};
+ghost use Rattle.std.specs.Prelude.{◌≡◌, ◌+◌, ◌++◌, ◌<◌, ◌≤◌, ℕ, List, IfOk, OnOk, map};
 ghost use Rattle.told_left.specs.Awaited.{awaited_of};
 ghost use Rattle.told_left.specs.Left.{AreTold, IsLeft, IsTold, left_head};
 ghost use Rattle.told_left.specs.Lines.{left_line};
+ghost use Rattle.told_left.specs.More.{more_text};
 ghost use Rattle.told_left.specs.Names.{name_of};
 ghost use Rattle.xinu_model.specs.Sound.State.{IsSound};
 ghost use Rattle.xinu_model.specs.Tables.{state_at};
 
 use crate::awaited::push_awaited;
 use crate::lines::push_left;
+use crate::more::push_more;
 use crate::names::push_name;
 use crate::whereabouts::push_whereabouts;
 use kernel_state::KernelState;
 use kernel_tables::KernelTables;
+use printed_runs::Text;
+use process_lives::{Life, Lives};
 use run_story::Story;
 use std::alloc::{AllocError, Global};
 use xinu_base::{Pid, State};
 
-/// The text that tells of each process that is left in a sound state but the null process what it does, and where it is: each is told
-/// once, in the order of their numbers.
+/// The text that tells of each process that is left in a sound state but the null process what it does, since when, and where it is: each is told
+/// once, in the order of their numbers. At most 1000000000 ticks have passed.
 ///
 /// # Errors
 /// Out of memory.
@@ -27,14 +31,16 @@ pub fn left_text(
     alloc: Global,
     files: &[Vec<u8>],
     k: &KernelState,
+    lives: &Lives,
     story: &Story,
 ) -> Result<Vec<u8>, AllocError>
     requires sound { IsSound k.now.call.state }
-    ensures told { IfOk result (λ text. AreTold (map (λ v. v.items) files.now) k.now.call.state 63 text.items) }
+    requires few { k.now.call.state.tables.ticks ≤ 1000000000 }
+    ensures told { IfOk result (λ text. AreTold (map (λ v. v.items) files.now) k.now.call.state lives.now 63 text.items) }
 {
     let mut told = Vec::new(alloc);
     for number in 0..63usize {
-        push_process(alloc, &mut told, files, k, story, number + 1)?;
+        push_process(alloc, &mut told, files, k, lives, story, number + 1)?;
     }
     Ok(told)
 }
@@ -52,18 +58,20 @@ fn push_process(
     told: &mut Vec<u8>,
     files: &[Vec<u8>],
     k: &KernelState,
+    lives: &Lives,
     story: &Story,
     process: usize,
 ) -> Result<(), AllocError>
     requires below { process < 64 }
     requires sound { IsSound k.now.call.state }
-    ensures told { OnOk result ((text : List ℕ) × (IsTold (map (λ v. v.items) files.now) k.now.call.state process text × (told.new.items ≡ told.old.items ++ text))) }
+    requires few { k.now.call.state.tables.ticks ≤ 1000000000 }
+    ensures told { OnOk result ((text : List ℕ) × (IsTold (map (λ v. v.items) files.now) k.now.call.state lives.now process text × (told.new.items ≡ told.old.items ++ text))) }
 {
-    let text = process_text(alloc, files, k, story, process)?;
+    let text = process_text(alloc, files, k, lives, story, process)?;
     told.extend_from_slice(text.as_slice())
 }
 
-/// What is told of a process, whose number is below 64, in a sound state: nothing if its number is free.
+/// What is told of a process, whose number is below 64, in a sound state: nothing if its number is free. At most 1000000000 ticks have passed.
 ///
 /// # Errors
 /// Out of memory.
@@ -71,18 +79,20 @@ pub fn process_text(
     alloc: Global,
     files: &[Vec<u8>],
     k: &KernelState,
+    lives: &Lives,
     story: &Story,
     process: usize,
 ) -> Result<Vec<u8>, AllocError>
     requires below { process < 64 }
     requires sound { IsSound k.now.call.state }
-    ensures told { IfOk result (λ text. IsTold (map (λ v. v.items) files.now) k.now.call.state process text.items) }
+    requires few { k.now.call.state.tables.ticks ≤ 1000000000 }
+    ensures told { IfOk result (λ text. IsTold (map (λ v. v.items) files.now) k.now.call.state lives.now process text.items) }
 {
     let p = Pid::at(process);
     if matches!(state_of(k, p), State::Free) {
         return Ok(Vec::new(alloc));
     }
-    line_and_place(alloc, files, k, story, p)
+    line_and_place(alloc, files, k, lives, story, p)
 }
 
 // The line of a process that is left, and where it is.
@@ -90,18 +100,44 @@ fn line_and_place(
     alloc: Global,
     files: &[Vec<u8>],
     k: &KernelState,
+    lives: &Lives,
     story: &Story,
     process: Pid,
 ) -> Result<Vec<u8>, AllocError>
     requires sound { IsSound k.now.call.state }
-    ensures left { IfOk result (λ text. IsLeft (map (λ v. v.items) files.now) k.now.call.state process text.items) }
+    requires few { k.now.call.state.tables.ticks ≤ 1000000000 }
+    ensures left { IfOk result (λ text. IsLeft (map (λ v. v.items) files.now) k.now.call.state lives.now process text.items) }
 {
-    let words = story.left_words(process.index());
-    let more = words.more.whole()?;
+    let life = lives.life(process);
+    let more = more_in(alloc, &k.tables, process, &life, story)?;
     let mut told = Vec::new(alloc);
-    push_line(alloc, &mut told, k, process, words.since, more.as_bytes())?;
+    push_line(alloc, &mut told, k, process, life.since, more.as_slice())?;
     push_whereabouts(&mut told, files, k, process)?;
     Ok(told)
+}
+
+// What else is told of a process.
+fn more_in(
+    alloc: Global,
+    tables: &KernelTables,
+    process: Pid,
+    life: &Life,
+    story: &Story,
+) -> Result<Vec<u8>, AllocError>
+    requires few { tables.now.ticks ≤ 1000000000 }
+    ensures more { IfOk result (λ text. (usage : List ℕ) × (text.items ≡ more_text (state_at tables.now process) tables.now process life.now usage)) }
+{
+    let usage = usage_text(alloc, story, process)?;
+    let mut text = Vec::new(alloc);
+    push_more(&mut text, tables, process, life, usage.as_bytes())?;
+    Ok(text)
+}
+
+// How the semaphore was used for which a process waits, if it waits for one that processes made.
+fn usage_text(alloc: Global, story: &Story, process: Pid) -> Result<String, AllocError> {
+    let mut text = Text::new(alloc);
+    story.tell_usage(&mut text, process.index());
+    text.whole()
 }
 
 // Appends the line of a process that is left, since this event, with what else is told.

@@ -3,15 +3,17 @@
 //! [`left_text`] tells of all of them (`AreTold` in `specs/Left.antt`), and [`process_text`] of one (`IsTold` there).
 //!
 //! Of a process is told what its state says that it does (`left_line` in `specs/Lines.antt`), its name (`name_of` in `specs/Names.antt`),
-//! for whose semaphore it waits (`awaited_of` in `specs/Awaited.antt`), and where it is: the call that its registers ask for, the
-//! address, the function that has it, and the instruction there (`whereabouts_text` in `specs/Whereabouts.antt`). All of this is read off
-//! the state. Since which event it does so, and what else is told, is what the story of the run knows.
+//! for whose semaphore it waits (`awaited_of` in `specs/Awaited.antt`), since which event it does so, by the lives of `process_lives`, when it
+//! wakes and how long it is ready (`more_text` in `specs/More.antt`), and where it is: the call that its registers ask for, the
+//! address, the function that has it, and the instruction there (`whereabouts_text` in `specs/Whereabouts.antt`). How the semaphore was
+//! used on which it waits is what the story of the run knows.
 #![tactic(auto)]
 
 mod awaited;
 mod calls;
 mod left;
 mod lines;
+mod more;
 mod names;
 mod whereabouts;
 
