@@ -20,41 +20,41 @@ loop-event-init c =
 pub loop-event-preserved : goal.loop-event-preserved
 loop-event-preserved c = (
   noted_after c.args.replay.now c.loop-event.replay c.take_event.new.replay c.in-Some.event c.loop-event.strays c.note.new.strays
-      c.loop-event.invariant.0 c.in-Some.ensures.next c.note.ensures.notes c.in_ok-take_event.ensures.takes,
+      c.loop-event.invariant.0 c.in-Some.ensures.next c.note.ensures.notes c.in_ok-go.ensures.takes,
   refused_after c.args.replay.now c.loop-event.replay c.take_event.new.replay c.in-Some.event c.loop-event.refused c.note_refused.new.refused
-      c.loop-event.invariant.1 c.in-Some.ensures.next c.in_ok-note_refused.ensures.noted c.in_ok-take_event.ensures.takes,
+      c.loop-event.invariant.1 c.in-Some.ensures.next c.in_ok-note_refused.ensures.noted c.in_ok-go.ensures.takes,
   lived_next c.args.replay.now c.loop-event.replay c.take_event.new.replay c.loop-event.lives c.note_lives.new.lives
-      c.loop-event.invariant.2 c.in_ok-take_event.ensures.takes c.note_lives.ensures.noted,
-  inputs_again c.args.replay.now c.loop-event.replay c.take_event.new.replay c.loop-event.invariant.3 c.in_ok-take_event.ensures.inputs,
-  rw c.in-Goes.is at c.in_ok-take_event.ensures.ends,
+      c.loop-event.invariant.2 c.in_ok-go.ensures.takes c.note_lives.ensures.noted,
+  inputs_again c.args.replay.now c.loop-event.replay c.take_event.new.replay c.loop-event.invariant.3 c.in_ok-go.ensures.inputs,
+  rw c.in-Goes.is at c.in_ok-go.ensures.ends,
 )
 
 pub returns-in-Done : goal.returns-in-Done
 returns-in-Done c = record {
   strays =
       noted_after c.args.replay.now c.loop-event.replay c.take_event.new.replay c.in-Some.event c.loop-event.strays c.note.new.strays
-      c.loop-event.invariant.0 c.in-Some.ensures.next c.note.ensures.notes c.in_ok-take_event.ensures.takes;
+      c.loop-event.invariant.0 c.in-Some.ensures.next c.note.ensures.notes c.in_ok-go.ensures.takes;
   refusals =
       refused_after c.args.replay.now c.loop-event.replay c.take_event.new.replay c.in-Some.event c.loop-event.refused c.note_refused.new.refused
-      c.loop-event.invariant.1 c.in-Some.ensures.next c.in_ok-note_refused.ensures.noted c.in_ok-take_event.ensures.takes;
+      c.loop-event.invariant.1 c.in-Some.ensures.next c.in_ok-note_refused.ensures.noted c.in_ok-go.ensures.takes;
   lived = lived_next c.args.replay.now c.loop-event.replay c.take_event.new.replay c.loop-event.lives c.note_lives.new.lives
-      c.loop-event.invariant.2 c.in_ok-take_event.ensures.takes c.note_lives.ensures.noted;
-  inputs = inputs_again c.args.replay.now c.loop-event.replay c.take_event.new.replay c.loop-event.invariant.3 c.in_ok-take_event.ensures.inputs;
-  ended = rw c.in-Done.is at c.in_ok-take_event.ensures.ends;
+      c.loop-event.invariant.2 c.in_ok-go.ensures.takes c.note_lives.ensures.noted;
+  inputs = inputs_again c.args.replay.now c.loop-event.replay c.take_event.new.replay c.loop-event.invariant.3 c.in_ok-go.ensures.inputs;
+  ended = rw c.in-Done.is at c.in_ok-go.ensures.ends;
 }
 
 pub returns-in-Panic : goal.returns-in-Panic
 returns-in-Panic c = record {
   strays =
       noted_after c.args.replay.now c.loop-event.replay c.take_event.new.replay c.in-Some.event c.loop-event.strays c.note.new.strays
-      c.loop-event.invariant.0 c.in-Some.ensures.next c.note.ensures.notes c.in_ok-take_event.ensures.takes;
+      c.loop-event.invariant.0 c.in-Some.ensures.next c.note.ensures.notes c.in_ok-go.ensures.takes;
   refusals =
       refused_after c.args.replay.now c.loop-event.replay c.take_event.new.replay c.in-Some.event c.loop-event.refused c.note_refused.new.refused
-      c.loop-event.invariant.1 c.in-Some.ensures.next c.in_ok-note_refused.ensures.noted c.in_ok-take_event.ensures.takes;
+      c.loop-event.invariant.1 c.in-Some.ensures.next c.in_ok-note_refused.ensures.noted c.in_ok-go.ensures.takes;
   lived = lived_next c.args.replay.now c.loop-event.replay c.take_event.new.replay c.loop-event.lives c.note_lives.new.lives
-      c.loop-event.invariant.2 c.in_ok-take_event.ensures.takes c.note_lives.ensures.noted;
-  inputs = inputs_again c.args.replay.now c.loop-event.replay c.take_event.new.replay c.loop-event.invariant.3 c.in_ok-take_event.ensures.inputs;
-  ended = rw c.in-Panic.is at c.in_ok-take_event.ensures.ends;
+      c.loop-event.invariant.2 c.in_ok-go.ensures.takes c.note_lives.ensures.noted;
+  inputs = inputs_again c.args.replay.now c.loop-event.replay c.take_event.new.replay c.loop-event.invariant.3 c.in_ok-go.ensures.inputs;
+  ended = rw c.in-Panic.is at c.in_ok-go.ensures.ends;
 }
 
 pub returns : goal.returns
